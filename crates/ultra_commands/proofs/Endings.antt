@@ -7,9 +7,9 @@ use Rattle.ultra_isa.specs.declared.Instr.{Instr}
 use Rattle.ultra_model.specs.Machine.{Settings}
 use Rattle.ultra_io.specs.Account.{SinkState}
 use Rattle.ultra_inputs.specs.declared.failure.Failure.{Failure}
-use Rattle.ultra_inputs.specs.declared.failure.Failure.TheVariants.{Usage, NotWords, NotRead, NotToml, BadField, UnknownKey, NotUtf8, BadLine, BadJob, BadParameter, NoMemory, NoThread, HeapFull, NotWritten}
+use Rattle.ultra_inputs.specs.declared.failure.Failure.TheVariants.{NoThread, HeapFull, NotWritten}
 use Rattle.ultra_inputs.specs.Failure.{status_of, read_failures, write_failures}
-use Rattle.ultra_inputs.specs.Traffic.{Traffic, IsStopped, TextFails, refused, stopped}
+use Rattle.ultra_inputs.specs.Traffic.{Traffic, TextFails}
 use Rattle.ultra_commands.specs.Listing.{ListFails, unread_text, refused_text, unwritten}
 use Rattle.ultra_commands.specs.Stops.{IsStoppedBy}
 use Rattle.ultra_commands.specs.Explanation.{explanation_of, EndsFull, IsCutShort}
@@ -20,61 +20,9 @@ use Rattle.ultra_args.specs.declared.Parsed.{Parsed}
 use Rattle.ultra_inputs.specs.Shown.{IsReported}
 use Rattle.ultra_sweep_command.specs.Sweep as sweep
 use Rattle.ultra_sweep_command.specs.Sweep.{Swept, SweepFails, HasFailed, JobsFail}
-use Rattle.ultra_commands.specs.Outcome.{IsStatus, IsRefusal, status_failures, ExplainFails, Obeyed, NotObeyed, HasReported, HasEnded}
-
-two : IsStatus 2
-two = inr (inl refl)
-
-three : IsStatus 3
-three = inr (inr (inl refl))
-
-four : IsStatus 4
-four = inr (inr (inr (inl refl)))
-
-five : IsStatus 5
-five = inr (inr (inr (inr refl)))
-
--- the status of a failure, and how often the source of files and standard output failed
-record Ends (f : Failure) : Type 0 where
-  status : IsStatus (status_of f)
-  bad : status_of f ≢ 0
-  unread : status_of f ≢ 3 → read_failures f ≡ 0
-  written : write_failures f ≡ status_failures (status_of f)
-
-ends : (f : Failure) → Ends f
-ends (Usage t) = record { status = two; bad = λ e. cc; unread = λ ne. refl; written = refl }
-ends NotWords = record { status = two; bad = λ e. cc; unread = λ ne. refl; written = refl }
-ends (NotRead p) = record { status = three; bad = λ e. cc; unread = λ ne. absurd (ne refl); written = refl }
-ends (NotToml p) = record { status = three; bad = λ e. cc; unread = λ ne. refl; written = refl }
-ends (BadField p f) = record { status = three; bad = λ e. cc; unread = λ ne. refl; written = refl }
-ends (UnknownKey p) = record { status = three; bad = λ e. cc; unread = λ ne. refl; written = refl }
-ends (NotUtf8 p) = record { status = three; bad = λ e. cc; unread = λ ne. refl; written = refl }
-ends (BadLine p l k) = record { status = three; bad = λ e. cc; unread = λ ne. refl; written = refl }
-ends (BadJob p) = record { status = three; bad = λ e. cc; unread = λ ne. refl; written = refl }
-ends BadParameter = record { status = three; bad = λ e. cc; unread = λ ne. refl; written = refl }
-ends NoMemory = record { status = four; bad = λ e. cc; unread = λ ne. refl; written = refl }
-ends NoThread = record { status = four; bad = λ e. cc; unread = λ ne. refl; written = refl }
-ends HeapFull = record { status = four; bad = λ e. cc; unread = λ ne. refl; written = refl }
-ends NotWritten = record { status = five; bad = λ e. cc; unread = λ ne. refl; written = refl }
-
--- want of memory or of a thread, a full heap and a failed write are no refusals
-not_four : ¬ IsRefusal 4
-not_four (inl e) = cc
-not_four (inr e) = cc
-
-pub not_five : ¬ IsRefusal 5
-not_five (inl e) = cc
-not_five (inr e) = cc
-
-ended_by : (f g : Failure) → f ≡ g → ¬ IsRefusal (status_of g) → ¬ IsRefusal (status_of f)
-ended_by f g same never r = never (subst (λ x. IsRefusal (status_of x)) same r)
-
-is_unwritten : (f : Failure) → f ≡ NotWritten → ¬ IsRefusal (status_of f)
-is_unwritten f e = ended_by f NotWritten e not_five
-
-is_stopped : (f : Failure) → IsStopped f → ¬ IsRefusal (status_of f)
-is_stopped f (inl e) = ended_by f NoMemory e not_four
-is_stopped f (inr e) = is_unwritten f e
+use Rattle.ultra_inputs.specs.Status.{IsStatus, IsRefusal, status_failures}
+use Rattle.ultra_inputs.proofs.Endings.{ends, not_four, not_five, ended_by, is_unwritten, is_stopped, text_refused}
+use Rattle.ultra_commands.specs.Outcome.{ExplainFails, Obeyed, NotObeyed, HasReported, HasEnded}
 
 is_stopped_by : (workers : ℕ) (f : Failure) → IsStoppedBy workers f → ¬ IsRefusal (status_of f)
 is_stopped_by workers f (inl s) = is_stopped f s
@@ -84,20 +32,12 @@ is_cut_short : (f : Failure) → IsCutShort f → ¬ IsRefusal (status_of f)
 is_cut_short f (inl e) = ended_by f HeapFull e not_four
 is_cut_short f (inr s) = is_stopped f s
 
--- a command that fails to write a text has written nothing where an input is refused
 module _ (conf prog : List ℕ) (old new : Traffic) (f : Failure) (text : Settings → List Instr → List ℕ) where
-  text_refused : (Stops : Failure → Type 0) → (Stops f → ¬ IsRefusal (status_of f)) → TextFails text Stops conf prog old new f → IsRefusal (status_of f) → new.written ≡ old.written
-  text_refused Stops why (refused gave same) r = same
-  text_refused Stops why (stopped c p gave stops begun) r = absurd (why stops r)
-
-  pub order_refused : TextFails text IsStopped conf prog old new f → IsRefusal (status_of f) → new.written ≡ old.written
-  order_refused = text_refused IsStopped (is_stopped f)
-
   pub run_refused : (workers : ℕ) → TextFails text (IsStoppedBy workers) conf prog old new f → IsRefusal (status_of f) → new.written ≡ old.written
-  run_refused workers = text_refused (IsStoppedBy workers) (is_stopped_by workers f)
+  run_refused workers = text_refused conf prog old new f text (IsStoppedBy workers) (is_stopped_by workers f)
 
   cut_short_refused : TextFails text IsCutShort conf prog old new f → IsRefusal (status_of f) → new.written ≡ old.written
-  cut_short_refused = text_refused IsCutShort (is_cut_short f)
+  cut_short_refused = text_refused conf prog old new f text IsCutShort (is_cut_short f)
 
 pub explain_refused : (conf prog : List ℕ) (old new : Traffic) (f : Failure) → ExplainFails conf prog old new f → IsRefusal (status_of f) → new.written ≡ old.written
 explain_refused conf prog old new f why = cut_short_refused conf prog old new f explanation_of why.fails

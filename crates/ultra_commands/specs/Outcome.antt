@@ -1,5 +1,5 @@
 -- which commands were obeyed, and with which status the program ends; this project's profile
-use Rattle.std.specs.Prelude.{◌≡◌, ◌≢◌, ◌+◌, ℕ, List, [], ◌∷◌, ◌++◌, ◌⊎◌, ◌==◌, if◌then◌else◌, string_bytes, Result, OnOk, IfErr}
+use Rattle.std.specs.Prelude.{◌≡◌, ◌≢◌, ◌+◌, ℕ, List, [], ◌∷◌, ◌++◌, string_bytes, Result, OnOk, IfErr}
 use Rattle.ultra_msg.specs.Bytes.{TakesPrefix}
 use Rattle.ultra_args.specs.declared.Invocation.TheVariants.{Run, Order, Explain, List as ListOf, Sweep, Lib}
 use Rattle.ultra_args.specs.declared.Parsed.{Parsed}
@@ -15,21 +15,9 @@ use Rattle.ultra_commands.specs.Order.{order_of}
 use Rattle.ultra_commands.specs.Explanation.{explanation_of, EndsFull, IsCutShort}
 use Rattle.ultra_commands.specs.Coordination.{WroteProgram, LibFails}
 use Rattle.ultra_inputs.specs.Shown.{IsReported}
+use Rattle.ultra_inputs.specs.Status.{IsStatus, IsRefusal, status_failures}
 use Rattle.ultra_sweep_command.specs.Sweep.{Swept, SweepFails}
 use Rattle.ultra_trace.specs.Trace.{trace}
-
--- one of the program's statuses: done, a usage fault, refused input, no memory or thread, a failed
--- write
-abbrev pub IsStatus : ℕ → Type 0
-IsStatus s = (s ≡ 0) ⊎ (s ≡ 2) ⊎ (s ≡ 3) ⊎ (s ≡ 4) ⊎ (s ≡ 5)
-
--- nothing was written: the words are no command, or an input is refused
-abbrev pub IsRefusal : ℕ → Type 0
-IsRefusal s = (s ≡ 2) ⊎ (s ≡ 3)
-
--- how often standard output failed where the program ended with the status
-abbrev pub status_failures : ℕ → ℕ
-status_failures s = if s == 5 then 1 else 0
 
 -- how an explanation fails: where the heap is full, the lines before a combination are written
 pub record ExplainFails (conf prog : List ℕ) (old new : Traffic) (f : Failure) : Type 0 where

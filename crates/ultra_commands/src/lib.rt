@@ -15,7 +15,8 @@ ghost use Rattle.ultra_args.specs.Asked.{IsAskedBy};
 ghost use Rattle.ultra_args.specs.declared.Parsed.{Parsed};
 ghost use Rattle.ultra_inputs.specs.Shown.{stream};
 ghost use Rattle.ultra_inputs.specs.Traffic.{traffic};
-ghost use Rattle.ultra_commands.specs.Outcome.{status_failures, IsRefusal, IsStatus, Obeyed, Failed, HasEnded, HasReported};
+ghost use Rattle.ultra_inputs.specs.Status.{status_failures, IsRefusal, IsStatus};
+ghost use Rattle.ultra_commands.specs.Outcome.{Obeyed, Failed, HasEnded, HasReported};
 
 use crate::coordination::write_program;
 use crate::explaining::explain;

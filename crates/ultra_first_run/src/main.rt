@@ -2,8 +2,10 @@
 //! fewer crates than `ultra`, so a fresh machine has it sooner.
 #![tactic(auto)]
 
-ghost use Rattle.std.specs.Prelude.{◌≡◌, ◌++◌, IfErr, IfOk, List, OnErr, OnOk, map, string_bytes, ℕ};
+ghost use Rattle.std.specs.Prelude.{◌≡◌, ◌≢◌, ◌+◌, ◌++◌, IfErr, IfOk, List, OnErr, OnOk, map, string_bytes, ℕ};
 ghost use Rattle.ultra_model.specs.Trace.{trace};
+ghost use Rattle.ultra_inputs.specs.Failure.{read_failures, write_failures};
+ghost use Rattle.ultra_inputs.specs.Status.{status_failures, IsRefusal, IsStatus};
 ghost use Rattle.ultra_inputs.specs.Traffic.{traffic, IsStopped, WroteText, TextFails};
 ghost use Rattle.ultra_inputs.specs.Shown.{stream};
 ghost use Rattle.ultra_first_run.specs.Ending.{HasEndedFirstRun, failure_of_run, usage};
@@ -34,6 +36,12 @@ fn run<'p, F: Source, O: Sink>(
         (traffic (F.files source.old) (O.taken out.old)) (traffic (F.files source.new) (O.taken out.new))) }
     ensures err { IfErr result (TextFails trace IsStopped settings_path.now program_path.now
         (traffic (F.files source.old) (O.taken out.old)) (traffic (F.files source.new) (O.taken out.new))) }
+    ensures read_still { OnOk result (F.failures source.new ≡ F.failures source.old) }
+    ensures read_counted { IfErr result
+        (λ f. F.failures source.new ≡ F.failures source.old + read_failures f) }
+    ensures write_still { OnOk result (O.failures out.new ≡ O.failures out.old) }
+    ensures write_counted { IfErr result
+        (λ f. O.failures out.new ≡ O.failures out.old + write_failures f) }
 {
     let Inputs { config, program } = read_inputs(alloc, settings_path, program_path, source)?;
     match run_alone(alloc, &config, &program, out) {
@@ -73,9 +81,14 @@ fn run_words<F: Source, O: Sink, E: Sink>(
     out: &mut O,
     err: &mut E,
 ) -> u8
-    ensures { HasEndedFirstRun (map string_bytes words.now)
+    ensures status { IsStatus result }
+    ensures nothing { IsRefusal result → O.taken out.new ≡ O.taken out.old }
+    ensures counted { O.failures out.new ≡ O.failures out.old + status_failures result }
+    ensures read_still { result ≢ 3 → F.failures source.new ≡ F.failures source.old }
+    ensures ended { HasEndedFirstRun (map string_bytes words.now)
         (traffic (F.files source.old) (O.taken out.old)) (traffic (F.files source.new) (O.taken out.new))
-        (stream (E.taken err.old) (E.failures err.old)) (stream (E.taken err.new) (E.failures err.new)) result }
+        (stream (E.taken err.old) (E.failures err.old)) (stream (E.taken err.new) (E.failures err.new))
+        (F.failures source.old) (F.failures source.new) result }
 {
     let [_, settings, program] = words else {
         return show_usage(err);
@@ -94,11 +107,20 @@ fn start<R: AllocGlobal + Env, F: Source, O: Sink, E: Sink>(
     out: &mut O,
     err: &mut E,
 ) -> io::Result<u8>
+    ensures status { IfOk result (λ s. IsStatus s) }
+    ensures nothing { IfOk result (λ s. IsRefusal s → O.taken out.new ≡ O.taken out.old) }
+    ensures counted { IfOk result
+        (λ s. O.failures out.new ≡ O.failures out.old + status_failures s) }
+    ensures read_still { IfOk result (λ s. s ≢ 3 →
+        F.failures source.new ≡ F.failures source.old) }
     ensures ended { IfOk result (λ s. (words : List (List ℕ)) × HasEndedFirstRun words
         (traffic (F.files source.old) (O.taken out.old)) (traffic (F.files source.new) (O.taken out.new))
-        (stream (E.taken err.old) (E.failures err.old)) (stream (E.taken err.new) (E.failures err.new)) s) }
-    ensures nothing { OnErr result (traffic (F.files source.new) (O.taken out.new) ≡ traffic (F.files source.old) (O.taken out.old)) }
-    ensures nothing_shown { OnErr result (stream (E.taken err.new) (E.failures err.new) ≡ stream (E.taken err.old) (E.failures err.old)) }
+        (stream (E.taken err.old) (E.failures err.old)) (stream (E.taken err.new) (E.failures err.new))
+        (F.failures source.old) (F.failures source.new) s) }
+    ensures no_words { OnErr result (O.taken out.new ≡ O.taken out.old) }
+    ensures no_word_of_it { OnErr result (E.taken err.new ≡ E.taken err.old) }
+    ensures no_file { OnErr result (F.files source.new ≡ F.files source.old) }
+    ensures no_unread_file { OnErr result (F.failures source.new ≡ F.failures source.old) }
 {
     let words: Vec<String> = env::args(rt)?.collect(rt.alloc())?;
     Ok(run_words(rt.alloc(), words.as_slice(), source, out, err))

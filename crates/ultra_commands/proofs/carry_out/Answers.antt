@@ -13,7 +13,8 @@ use Rattle.ultra_commands.specs.Order.{order_of}
 use Rattle.ultra_commands.specs.Explanation.{explanation_of}
 use Rattle.ultra_commands.specs.Coordination.{WroteProgram, LibFails}
 use Rattle.ultra_commands.specs.Outcome.{ExplainFails}
-use Rattle.ultra_commands.proofs.Endings.{run_refused, order_refused, explain_failed, explain_refused, list_refused, lib_refused, lib_unread, command_ended, sweep_ended}
+use Rattle.ultra_inputs.proofs.Endings.{stopped_refused}
+use Rattle.ultra_commands.proofs.Endings.{run_refused, explain_failed, explain_refused, list_refused, lib_refused, lib_unread, command_ended, sweep_ended}
 use Rattle.ultra_commands.proofs.carry_out.Goals as goal
 
 pub returns-in-Run : goal.returns-in-Run
@@ -34,7 +35,7 @@ returns-in-Order g c =
     let old = traffic (g.F.Source.files c.args.source.now) (g.O.Sink.taken c.args.out.now) in
     let new = traffic (g.F.Source.files c.order.new.source) (g.O.Sink.taken c.order.new.out) in
     let did = c.order.ensures in
-    rw a.is (command_ended (parsed.Invocation (Order a.settings a.program)) old new _ _ _ _ _ _ _ c.order.result (WroteText order_of conf prog old new) (TextFails order_of IsStopped conf prog old new) (λ d same. (d, same)) (λ f why. (why, refl)) (λ f. order_refused conf prog old new f order_of) did.ok did.err did.read_still did.read_counted did.write_still did.write_counted c.ended-in-Order.ensures)
+    rw a.is (command_ended (parsed.Invocation (Order a.settings a.program)) old new _ _ _ _ _ _ _ c.order.result (WroteText order_of conf prog old new) (TextFails order_of IsStopped conf prog old new) (λ d same. (d, same)) (λ f why. (why, refl)) (λ f. stopped_refused conf prog old new f order_of) did.ok did.err did.read_still did.read_counted did.write_still did.write_counted c.ended-in-Order.ensures)
 
 pub returns-in-Explain : goal.returns-in-Explain
 returns-in-Explain g c =

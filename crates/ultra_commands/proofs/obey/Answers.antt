@@ -3,7 +3,8 @@ use Rattle.std.proofs.Common.{refl, arith, inl, inr}
 use Rattle.ultra_args.specs.declared.Parsed.TheVariants as parsed
 use Rattle.ultra_inputs.specs.declared.failure.Failure.TheVariants.{Usage, NoMemory, NotWritten}
 use Rattle.ultra_inputs.specs.Shown.{stream}
-use Rattle.ultra_commands.proofs.Endings.{not_five, failure_ended}
+use Rattle.ultra_inputs.proofs.Endings.{not_five}
+use Rattle.ultra_commands.proofs.Endings.{failure_ended}
 use Rattle.ultra_commands.proofs.obey.Goals as goal
 
 pub returns-in-Help : goal.returns-in-Help

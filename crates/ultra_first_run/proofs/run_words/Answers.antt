@@ -1,6 +1,9 @@
 -- how each exit is one of the ways in which the program ends
-use Rattle.std.proofs.Common.{◌≡◌, ◌∙◌, ◌<◌, ◌≤◌, ℕ, ap, arith, get_or, refl, sym}
+use Rattle.std.proofs.Common.{◌≡◌, ◌∙◌, ◌<◌, ◌≤◌, ℕ, ap, arith, get_or, refl, subst, sym}
 use Rattle.std.specs.Prelude.{List, [], ◌∷◌, Some, length, map, string_bytes}
+use Rattle.ultra_model.specs.Trace.{trace}
+use Rattle.ultra_inputs.specs.Status.{IsRefusal}
+use Rattle.ultra_inputs.proofs.Endings.{ends, stopped_refused}
 use Rattle.ultra_first_run.specs.Ending.{ArePaths, done, failed}
 use Rattle.ultra_first_run.proofs.run_words.Goals as goal
 
@@ -18,10 +21,26 @@ are_paths text (x ∷ y ∷ z ∷ []) conf prog a b many few second third same_a
 }
 are_paths text (x ∷ y ∷ z ∷ u ∷ more) conf prog a b many few second third same_a same_b = absurd (omega (arith, few))
 
-pub returns-in-Ok : goal.returns-in-Ok
-returns-in-Ok g c = done _ _ (are_paths string_bytes c.args.words.now c.settings-item.result c.program-item.result _ _ c.in-len3.len_at_least c.in-len3.len_below c.settings-item.is c.program-item.is c.as_str.ensures.value c.as_str-2.ensures.value) refl c.in-Ok.ensures.ok refl
+pub returns-in-Ok-clause-ended : goal.returns-in-Ok-clause-ended
+returns-in-Ok-clause-ended g c = done _ _ (are_paths string_bytes c.args.words.now c.settings-item.result c.program-item.result _ _ c.in-len3.len_at_least c.in-len3.len_below c.settings-item.is c.program-item.is c.as_str.ensures.value c.as_str-2.ensures.value) refl c.in-Ok.ensures.ok refl
 
-pub returns-in-Err : goal.returns-in-Err
-returns-in-Err g c =
+pub returns-in-Err-clause-ended : goal.returns-in-Err-clause-ended
+returns-in-Err-clause-ended g c =
     failed _ _ (are_paths string_bytes c.args.words.now c.settings-item.result c.program-item.result _ _ c.in-len3.len_at_least c.in-len3.len_below c.settings-item.is c.program-item.is c.as_str.ensures.value c.as_str-2.ensures.value) c.in-Err.failure c.give_up.ensures.status c.in-Err.ensures.err
-    (record { begun = c.give_up.ensures.prefix; whole = c.give_up.ensures.whole })
+    (record { begun = c.give_up.ensures.prefix; whole = c.give_up.ensures.whole }) c.in-Err.ensures.read_counted
+
+pub returns-in-Err-clause-status : goal.returns-in-Err-clause-status
+returns-in-Err-clause-status g c = rw c.give_up.ensures.status (ends c.in-Err.failure).status
+
+pub returns-in-Err-clause-nothing : goal.returns-in-Err-clause-nothing
+returns-in-Err-clause-nothing g c refusal =
+    stopped_refused _ _ _ _ c.in-Err.failure trace c.in-Err.ensures.err (subst IsRefusal c.give_up.ensures.status refusal)
+
+pub returns-in-Err-clause-counted : goal.returns-in-Err-clause-counted
+returns-in-Err-clause-counted g c =
+    rw (c.give_up.ensures.status, ← (ends c.in-Err.failure).written) c.in-Err.ensures.write_counted
+
+pub returns-in-Err-clause-read_still : goal.returns-in-Err-clause-read_still
+returns-in-Err-clause-read_still g c other =
+    let none = (ends c.in-Err.failure).unread (λ three. other (c.give_up.ensures.status ∙ three)) in
+    omega (arith, none, c.in-Err.ensures.read_counted)
