@@ -72,7 +72,7 @@ fn a_run_is_asked_for(rt: HostRuntime) -> Result<(), Fail> {
             return Err("no run".into());
         };
         check_files(&rt, words, settings, program);
-        assert_eq!(rt; workers.count, *count, "{words:?}");
+        assert_eq!(rt; workers.count(), *count, "{words:?}");
     }
     Ok(())
 }
@@ -109,7 +109,7 @@ fn an_explanation_is_asked_for(rt: HostRuntime) -> Result<(), Fail> {
             return Err("no explanation".into());
         };
         check_files(&rt, words, settings, program);
-        assert_eq!(rt; heap.count, *bytes, "{words:?}");
+        assert_eq!(rt; heap.count(), *bytes, "{words:?}");
     }
     Ok(())
 }

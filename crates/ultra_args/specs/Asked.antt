@@ -25,12 +25,12 @@ pub data Asked : Type 0 where
   lib : Coordination → Asked
 
 abbrev pub asked_of : Invocation → Asked
-asked_of (command.Run conf prog workers) = run conf.now prog.now workers.count
+asked_of (command.Run conf prog workers) = run conf.now prog.now workers
 asked_of (command.Order conf prog) = order conf.now prog.now
-asked_of (command.Explain conf prog heap) = explain conf.now prog.now heap.count
+asked_of (command.Explain conf prog heap) = explain conf.now prog.now heap
 asked_of (command.List prog) = list prog.now
 asked_of (command.Sweep jobs workers at_once progress) =
-    sweep jobs.now workers.count at_once.count progress
+    sweep jobs.now workers at_once progress
 asked_of (command.Lib coordination) = lib coordination
 
 -- ---- numbers

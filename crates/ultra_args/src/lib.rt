@@ -4,6 +4,7 @@
 mod grammar;
 mod heap;
 mod help;
+mod jobs_at_once;
 mod reading;
 mod table;
 mod workers;
@@ -18,6 +19,7 @@ ghost use Rattle.ultra_args.specs.Grammar.{ultra_app, IsApp};
 use clap::error::ErrorKind;
 use grammar::ultra_command;
 pub use heap::HeapBytes;
+pub use jobs_at_once::JobsAtOnce;
 use reading::named_command;
 use std::alloc::{AllocError, Global};
 pub use workers::Workers;
@@ -62,8 +64,8 @@ pub enum Invocation<'w> {
         jobs: &'w str,
         /// How many threads of the host do the jobs, 1 to 64.
         workers: Workers,
-        /// How many of them may run a job at once, 1 to 64.
-        at_once: Workers,
+        /// How many jobs may run at once, 1 to 64.
+        at_once: JobsAtOnce,
         /// Whether standard error shows how many jobs are finished.
         progress: bool,
     },

@@ -6,7 +6,7 @@ ghost use Rattle.ultra_args.specs.Asked as asked;
 ghost use Rattle.ultra_args.specs.Asked.{asked_of, decimal, is_set, named, named_in};
 ghost use Rattle.ultra_args.specs.Asked.{option_number, number_within, sized, unsized};
 
-use crate::{Coordination, HeapBytes, Invocation, Workers};
+use crate::{Coordination, HeapBytes, Invocation, JobsAtOnce, Workers};
 use clap::ArgMatches;
 
 /// The command that accepted words name, or `None` where they name none.
@@ -45,7 +45,7 @@ fn run_in<'w>(words: &ArgMatches<'w>) -> Option<Invocation<'w>>
     Some(Invocation::Run {
         settings: text(words, "CONF")?,
         program: text(words, "PROG")?,
-        workers: workers(words, "workers")?,
+        workers: workers(words)?,
     })
 }
 
@@ -85,8 +85,8 @@ fn sweep_in<'w>(words: &ArgMatches<'w>) -> Option<Invocation<'w>>
 {
     Some(Invocation::Sweep {
         jobs: text(words, "JOBS")?,
-        workers: workers(words, "workers")?,
-        at_once: workers(words, "at-once")?,
+        workers: workers(words)?,
+        at_once: at_once(words)?,
         progress: is_given(words, "progress"),
     })
 }
@@ -166,17 +166,23 @@ fn is_given(words: &ArgMatches<'_>, id: &str) -> bool
     }
 }
 
-/// The number of workers that the option of this name gives.
-fn workers(words: &ArgMatches<'_>, id: &str) -> Option<Workers>
-    ensures { option_map (λ w. w.count) result
-        ≡ number_within 1 64 id.now (rows_of (found_of words.now)) }
+/// How many threads of the host work.
+fn workers(words: &ArgMatches<'_>) -> Option<Workers>
+    ensures { result ≡ number_within 1 64 (codes "workers") (rows_of (found_of words.now)) }
 {
-    Workers::new(number(words, id)?)
+    Workers::new(number(words, "workers")?)
+}
+
+/// How many jobs may run at once.
+fn at_once(words: &ArgMatches<'_>) -> Option<JobsAtOnce>
+    ensures { result ≡ number_within 1 64 (codes "at-once") (rows_of (found_of words.now)) }
+{
+    JobsAtOnce::new(number(words, "at-once")?)
 }
 
 /// The size of the heap that the words give.
 fn heap(words: &ArgMatches<'_>) -> Option<HeapBytes>
-    ensures { option_map (λ h. h.count) result
+    ensures { result
         ≡ number_within 256 16777216 (codes "heap") (rows_of (found_of words.now)) }
 {
     HeapBytes::new(number(words, "heap")?)

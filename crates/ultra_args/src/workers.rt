@@ -2,29 +2,51 @@
 
 ghost use Rattle.std.specs.Prelude.{◌≡◌, ◌≤◌, ◌↔◌, IfSome, IsSome};
 
+use std::marker::Model;
+
 /// The most threads of the host that a run or a sweep may have.
 const MOST_WORKERS: usize = 64;
 
 /// A number of threads of the host, 1 to 64. In a run one worker is the caller's thread, and of
-/// several each has a thread of its own.
+/// several each has a thread of its own. Contracts see the number.
+///
+/// Only the command line gives one, so no other number can be taken for it.
 #[derive(Clone, Copy)]
 pub struct Workers {
-    /// How many, 1 to 64.
-    pub count: usize,
-    ghost some: { 1 ≤ count },
-    ghost most: { count ≤ 64 },
+    count: usize,
+}
+
+impl Model for Workers {
+    ghost use Rattle.std.specs.Prelude.{ℕ, ◌≤◌};
+
+    ghost Value = { ℕ };
+
+    ghost view = { λ w. w.count };
+
+    ghost invariant = { λ w. (1 ≤ w.count) × (w.count ≤ 64) };
+
+    ghost inverse = { λ n. record { count = n } };
 }
 
 impl Workers {
     /// `count` workers, or `None` where `count` isn't 1 to 64.
-    pub fn new(count: usize) -> Option<Workers>
+    pub(crate) fn new(count: usize) -> Option<Workers>
         ensures in_range { IsSome result ↔ ((1 ≤ count) × (count ≤ 64)) }
-        ensures value { IfSome result (λ w. w.count ≡ count) }
+        ensures value { IfSome result (λ w. w ≡ count) }
     {
         if (1..=MOST_WORKERS).contains(&count) {
             Some(Workers { count })
         } else {
             None
         }
+    }
+
+    /// How many, 1 to 64.
+    pub fn count(self) -> usize
+        ensures value { result ≡ self }
+        ensures some { 1 ≤ result }
+        ensures most { result ≤ 64 }
+    {
+        self.count
     }
 }

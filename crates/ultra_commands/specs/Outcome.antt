@@ -57,7 +57,7 @@ Obeyed parsed.NoMemory old new before after = ⊥
 -- how it wasn't done, before the failure was reported
 abbrev pub NotObeyed : Parsed → Traffic → Traffic → SinkState → SinkState → Failure → Type 0
 NotObeyed (parsed.Invocation (Run conf prog workers)) old new before after f =
-    TextFails trace (IsStoppedBy workers.count) conf.now prog.now old new f × (after ≡ before)
+    TextFails trace (IsStoppedBy workers) conf.now prog.now old new f × (after ≡ before)
 NotObeyed (parsed.Invocation (Order conf prog)) old new before after f =
     TextFails order_of IsStopped conf.now prog.now old new f × (after ≡ before)
 NotObeyed (parsed.Invocation (Explain conf prog heap)) old new before after f =

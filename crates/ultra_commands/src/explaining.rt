@@ -1,6 +1,8 @@
 //! The command `explain`: it writes the combining tree of each memory act of a run.
 
 ghost use Rattle.std.specs.Prelude.{◌≡◌, ◌+◌, ◌++◌, false, IfErr, IfOk, OnErr, OnOk};
+ghost use Rattle.linked_list_allocator.specs.Heap.{heap_size};
+ghost use Rattle.linked_list_allocator.specs.Region.{block_size};
 ghost use Rattle.ultra_msg.specs.Bytes.{AreTakenOrWait, TakesPrefix};
 ghost use Rattle.ultra_model.specs.Machine.{size, start};
 ghost use Rattle.ultra_model.specs.Ranges.{AreInRange};
@@ -13,8 +15,9 @@ ghost use Rattle.ultra_commands.specs.Explanation.{event_lines, trees_after_all,
 
 use crate::acts::put_lines;
 use crate::line_buffer::LineBuffer;
-use linked_list_allocator::LocalHeap;
-use std::alloc::{Allocator, Global};
+use linked_list_allocator::{Heap, LocalHeap};
+use std::alloc::{AllocError, Global};
+use ultra_args::HeapBytes;
 use ultra_inputs::{Failure, Inputs, read_inputs};
 use ultra_io::Source;
 use ultra_isa::Program;
@@ -22,6 +25,9 @@ use ultra_machine::{Config, Machine};
 use ultra_msg::{Event, Sink};
 use ultra_serial::explaining_law;
 use ultra_tree::Explainer;
+
+/// An explainer whose trees live in a heap, and can live nowhere else.
+type HeapExplainer<'h> = Explainer<&'h LocalHeap>;
 
 /// Lines are written once they have this many bytes; fewer wait for the next cycle.
 const PIECE_BYTES: usize = 4096;
@@ -37,7 +43,7 @@ pub(crate) fn explain<'p, F: Source, O: Sink>(
     alloc: Global,
     settings_path: &'p str,
     program_path: &'p str,
-    heap_bytes: usize,
+    heap_bytes: HeapBytes,
     source: &mut F,
     out: &mut O,
 ) -> Result<(), Failure<'p>>
@@ -64,7 +70,7 @@ fn explain_run<'p, O: Sink>(
     alloc: Global,
     config: &Config,
     program: &Program,
-    heap_bytes: usize,
+    heap_bytes: HeapBytes,
     out: &mut O,
 ) -> Result<(), Failure<'p>>
     requires { AreInRange config.now }
@@ -79,17 +85,26 @@ fn explain_run<'p, O: Sink>(
     ensures counted { IfErr result
         (λ f. O.failures out.new ≡ O.failures out.old + write_failures f) }
 {
-    let heap = LocalHeap::new(alloc, heap_bytes)?;
+    let heap = new_heap(alloc, heap_bytes)?;
+    let heap = LocalHeap::from(heap);
     let mut explainer = new_explainer(config, &heap)?;
     explain_program(alloc, config, program, &mut explainer, out)
 }
 
+/// The heap of the trees: as many bytes as asked for, rounded up to a multiple of 16. An error says
+/// that memory was refused.
+fn new_heap(alloc: Global, heap_bytes: HeapBytes) -> Result<Heap, AllocError>
+    ensures { IfOk result (λ heap. heap_size heap ≡ block_size heap_bytes) }
+{
+    Heap::new(alloc, heap_bytes.count())
+}
+
 /// Writes the lines of a run by an explainer that holds no trees yet.
-fn explain_program<'p, A: Allocator + Clone, O: Sink>(
+fn explain_program<'p, O: Sink>(
     alloc: Global,
     config: &Config,
     program: &Program,
-    explainer: &mut Explainer<A>,
+    explainer: &mut HeapExplainer<'_>,
     out: &mut O,
 ) -> Result<(), Failure<'p>>
     requires in_range { AreInRange config.now }
@@ -111,10 +126,10 @@ fn explain_program<'p, A: Allocator + Clone, O: Sink>(
 }
 
 /// Follows a machine from its start to the end of its run, and writes all its lines.
-fn explain_machine<'p, A: Allocator + Clone, O: Sink>(
+fn explain_machine<'p, O: Sink>(
     alloc: Global,
     machine: &mut Machine,
-    explainer: &mut Explainer<A>,
+    explainer: &mut HeapExplainer<'_>,
     out: &mut O,
 ) -> Result<(), Failure<'p>>
     requires in_range { AreInRange machine.old.settings }
@@ -138,12 +153,12 @@ fn explain_machine<'p, A: Allocator + Clone, O: Sink>(
     lines.flush(out)
 }
 
-/// An explainer of a machine with these settings, which holds no trees. `HeapFull` says that the heap
-/// has no room for it.
-fn new_explainer<'p, A: Allocator + Clone>(
+/// An explainer of a machine with these settings, which holds no trees. It is given the heap and no
+/// other allocator. `HeapFull` says that the heap has no room for it.
+fn new_explainer<'p, 'h>(
     config: &Config,
-    heap: A,
-) -> Result<Explainer<A>, Failure<'p>>
+    heap: &'h LocalHeap,
+) -> Result<HeapExplainer<'h>, Failure<'p>>
     ensures explainer { IfOk result
         (λ e. e ≡ nothing_absorbed (size config.now) config.now.most_open) }
     ensures no_room { IfErr result (λ f. f ≡ HeapFull) }
@@ -155,9 +170,9 @@ fn new_explainer<'p, A: Allocator + Clone>(
 }
 
 /// Follows a machine from its start to the end of its run. Its last lines may still wait.
-fn explain_cycles<'p, A: Allocator + Clone, O: Sink>(
+fn explain_cycles<'p, O: Sink>(
     machine: &mut Machine,
-    explainer: &mut Explainer<A>,
+    explainer: &mut HeapExplainer<'_>,
     lines: &mut LineBuffer,
     out: &mut O,
 ) -> Result<(), Failure<'p>>
@@ -191,10 +206,10 @@ fn explain_cycles<'p, A: Allocator + Clone, O: Sink>(
 
 /// Follows the events of a cycle. The lines that wait are written if they have `PIECE_BYTES` bytes
 /// or more, or if a failure ends the run here.
-fn explain_cycle<'p, A: Allocator + Clone, O: Sink>(
+fn explain_cycle<'p, O: Sink>(
     cycle: u32,
     events: &[Event],
-    explainer: &mut Explainer<A>,
+    explainer: &mut HeapExplainer<'_>,
     lines: &mut LineBuffer,
     out: &mut O,
 ) -> Result<(), Failure<'p>>

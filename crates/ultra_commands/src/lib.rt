@@ -120,7 +120,7 @@ fn carry_out<'w, R: AllocGlobal + Threads + Wait + Sync, F: Source, O: Sink, E: 
             program,
             heap,
         } => {
-            let done = explain(alloc, settings, program, heap.count, source, out);
+            let done = explain(alloc, settings, program, heap, source, out);
             ended(done, err)
         }
         Invocation::List { program } => ended(list(alloc, program, source, out), err),

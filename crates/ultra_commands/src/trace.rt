@@ -33,7 +33,7 @@ pub(crate) fn run<'p, R: Threads + Wait + Sync, F: Source, O: Sink>(
     ensures ok { OnOk result (WroteText trace settings_path.now program_path.now
         (traffic (F.files source.old) (O.taken out.old)) (traffic (F.files source.new) (O.taken out.new))) }
     ensures err { IfErr result (TextFails trace
-        (IsStoppedBy workers.count) settings_path.now program_path.now
+        (IsStoppedBy workers) settings_path.now program_path.now
         (traffic (F.files source.old) (O.taken out.old)) (traffic (F.files source.new) (O.taken out.new))) }
     ensures read_still { OnOk result (F.failures source.new ≡ F.failures source.old) }
     ensures read_counted { IfErr result
@@ -43,7 +43,7 @@ pub(crate) fn run<'p, R: Threads + Wait + Sync, F: Source, O: Sink>(
         (λ f. O.failures out.new ≡ O.failures out.old + write_failures f) }
 {
     let Inputs { config, program } = read_inputs(alloc, settings_path, program_path, source)?;
-    let count = workers.count;
+    let count = workers.count();
     match ultra_trace::run(rt, alloc, &config, &program, count, &OpenGate, out) {
         Ok(()) => Ok(()),
         Err(fault) => Err(failure_of_run(fault)),

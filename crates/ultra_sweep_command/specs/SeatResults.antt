@@ -12,7 +12,7 @@ use Rattle.ultra_sweep_command.specs.declared.sweep_threads.SweepThreads.{SweepT
 -- how many threads are started: the caller's does jobs too, or it watches, with one of 64 seats
 abbrev pub threads_of : SweepPlan → ℕ
 threads_of plan =
-    if plan.progress then min plan.workers.count 63 else plan.workers.count - 1
+    if plan.progress then min plan.workers 63 else plan.workers - 1
 
 -- a seat with this many places that has drawn nothing and holds no pass
 pub record IsFresh (board : Opened) (places : ℕ) (seat : Seated) : Type 0 where

@@ -26,7 +26,7 @@ use running::run_jobs;
 use std::alloc::Global;
 use std::sync::Wait;
 use std::thread::Threads;
-use ultra_args::Workers;
+use ultra_args::{JobsAtOnce, Workers};
 use ultra_inputs::{Failure, give_up};
 use ultra_io::Source;
 use ultra_msg::Sink;
@@ -38,8 +38,8 @@ pub struct SweepPlan {
     /// How many threads of the host do the jobs, 1 to 64. The caller's is one of them, unless it
     /// watches the others for `progress`; then at most 63 do.
     pub workers: Workers,
-    /// How many of them may run a job at once, 1 to 64.
-    pub at_once: Workers,
+    /// How many jobs may run at once, 1 to 64.
+    pub at_once: JobsAtOnce,
     /// Whether standard error shows how many jobs are finished.
     pub progress: bool,
 }

@@ -29,22 +29,22 @@ impl SweepPlan {
         ensures few { result < 64 }
     {
         if self.progress {
-            self.workers.count.min(MOST_SEATS as usize - 1)
+            self.workers.count().min(MOST_SEATS as usize - 1)
         } else {
-            self.workers.count - 1
+            self.workers.count() - 1
         }
     }
 }
 
 /// The board of `count` jobs, with a pass for each job that may run at once, and its seat, which has
 /// a place for the caller and for each thread. An error says that memory was refused.
-fn open_board(alloc: Global, count: u64, plan: SweepPlan) -> Result<(Board, Seat), SweepFault>
+fn open_board(alloc: Global, count: u64, plan: &SweepPlan) -> Result<(Board, Seat), SweepFault>
     ensures jobs { IfOk result (λ b. b.0.limits.limit ≡ count) }
-    ensures at_once { IfOk result (λ b. b.0.limits.bound ≡ plan.at_once.count) }
-    ensures places { IfOk result (λ b. b.0.limits.seats ≡ threads_of plan + 1) }
-    ensures seat { IfOk result (λ b. IsFresh b.0 (threads_of plan + 1) b.1) }
+    ensures at_once { IfOk result (λ b. b.0.limits.bound ≡ plan.now.at_once) }
+    ensures places { IfOk result (λ b. b.0.limits.seats ≡ threads_of plan.now + 1) }
+    ensures seat { IfOk result (λ b. IsFresh b.0 (threads_of plan.now + 1) b.1) }
 {
-    let at_once = plan.at_once.count as u64;
+    let at_once = plan.at_once.count() as u64;
     match Board::open(alloc, count, at_once, plan.threads() as u64 + 1) {
         Ok(opened) => Ok(opened),
         Err(_) => Err(SweepFault::NoMemory),
@@ -68,8 +68,9 @@ pub(crate) fn run_jobs<R: Threads + Wait + Sync, E: Sink>(
         (stream (E.taken err.old) (E.failures err.old))
         (stream (E.taken err.new) (E.failures err.new))) }
 {
+    let progress = plan.progress;
     let count = jobs.len() as u64;
-    let Ok((board, seat)) = open_board(alloc, count, plan) else {
+    let Ok((board, seat)) = open_board(alloc, count, &plan) else {
         return Err(SweepFault::NoMemory);
     };
     let signal = DoneSignal::new();
@@ -81,7 +82,7 @@ pub(crate) fn run_jobs<R: Threads + Wait + Sync, E: Sink>(
     let (seat_results, mut meter) = run_together(rt, alloc, task, seat, plan, err);
     let SeatResults { seat, results } = seat_results?;
     let gathered = close_and_gather(alloc, board, seat, count, results)?;
-    if plan.progress {
+    if progress {
         meter.show(count, err);
     }
     Ok(gathered)
@@ -98,6 +99,7 @@ fn run_together<R: Threads + Wait + Sync, E: Sink>(
     err: &mut E,
 ) -> (Result<SeatResults, SweepFault>, ProgressMeter)
     requires task { IsSweepTask task }
+    requires at_once { task.board.now.limits.bound ≡ plan.at_once }
     requires fresh { IsFresh task.board.now (threads_of plan + 1) seat }
     ensures seat_results { IfOk result.0
         (AreWholeResults task.entry.board.now task.entry.jobs.now (threads_of plan + 1)) }

@@ -25,7 +25,7 @@ returns-in-Run g c =
     let old = traffic (g.F.Source.files c.args.source.now) (g.O.Sink.taken c.args.out.now) in
     let new = traffic (g.F.Source.files c.run-done.new.source) (g.O.Sink.taken c.run-done.new.out) in
     let did = c.run-done.ensures in
-    rw a.is (command_ended (parsed.Invocation (Run a.settings a.program a.workers)) old new _ _ _ _ _ _ _ c.run-done.result (WroteText trace conf prog old new) (TextFails trace (IsStoppedBy a.workers.count) conf prog old new) (λ d same. (d, same)) (λ f why. (why, refl)) (λ f. run_refused conf prog old new f trace a.workers.count) did.ok did.err did.read_still did.read_counted did.write_still did.write_counted c.ended.ensures)
+    rw a.is (command_ended (parsed.Invocation (Run a.settings a.program a.workers)) old new _ _ _ _ _ _ _ c.run-done.result (WroteText trace conf prog old new) (TextFails trace (IsStoppedBy a.workers) conf prog old new) (λ d same. (d, same)) (λ f why. (why, refl)) (λ f. run_refused conf prog old new f trace a.workers) did.ok did.err did.read_still did.read_counted did.write_still did.write_counted c.ended.ensures)
 
 pub returns-in-Order : goal.returns-in-Order
 returns-in-Order g c =

@@ -1,5 +1,5 @@
 -- how each exit of a run is one of the ways in which a run fails
-use Rattle.std.proofs.Common.{◌≡◌, ◌≢◌, ℕ, inl, inr, refl}
+use Rattle.std.proofs.Common.{◌≡◌, ◌≢◌, ◌∙◌, ℕ, inl, inr, refl}
 use Rattle.std.proofs.lemmas.Result.{err_from_is_err_and}
 use Rattle.ultra_trace.specs.RunFault.{RunFault}
 use Rattle.ultra_trace.specs.RunFault.TheVariants.{Write, NoMemory, NoThread}
@@ -21,4 +21,4 @@ returns-in_err-config-clause-err g c =
 pub returns-clause-err : goal.returns-clause-err
 returns-clause-err g c =
     let inputs = c.in_ok-config.field-0 in
-    rw c.failure_of_run.ensures (stopped inputs.config inputs.program c.in_ok-config.ensures.ok (stops c.args.workers.count c.in-Err.fault c.in-Err.ensures.alone) c.in-Err.ensures.err)
+    rw c.failure_of_run.ensures (stopped inputs.config inputs.program c.in_ok-config.ensures.ok (stops c.args.workers c.in-Err.fault (λ one. c.in-Err.ensures.alone (c.count-count.ensures.value ∙ one))) c.in-Err.ensures.err)
