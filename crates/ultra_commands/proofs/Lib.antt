@@ -2,4 +2,5 @@ pub mod Lines
 pub mod Firsts
 pub mod InRange
 pub mod Runs
+pub mod LastCycle
 pub mod Endings

@@ -5,6 +5,7 @@ use Rattle.ultra_msg.specs.declared.Event.TheVariants.{Delivered, Served, Combin
 use Rattle.ultra_isa.specs.declared.Instr.{Instr}
 use Rattle.ultra_model.specs.Machine.{Settings}
 use Rattle.ultra_model.specs.Phases.{after}
+use Rattle.ultra_model.specs.Trace.{cycle_count}
 use Rattle.ultra_inputs.specs.declared.failure.Failure.{Failure}
 use Rattle.ultra_inputs.specs.declared.failure.Failure.TheVariants.{HeapFull}
 use Rattle.ultra_inputs.specs.Inputs.{Gave}
@@ -41,14 +42,14 @@ abbrev pub trees_after_all : List Kept → List Event → List Kept
 trees_after_all ks [] = ks
 trees_after_all ks (e ∷ es) = trees_after_all (trees_after ks e) es
 
--- the lines of the first n cycles of a run, and of the run, to its most cycles
+-- the lines of the first n cycles of a run, and of the cycles that the trace has
 unfoldable pub lines_of_first : Settings → List Instr → ℕ → List ℕ
 lines_of_first c p zero = []
 lines_of_first c p (suc n) =
     lines_of_first c p n ++ event_lines n (history c p n).trees (after c p (suc n)).events
 
 abbrev pub explanation_of : Settings → List Instr → List ℕ
-explanation_of c p = lines_of_first c p c.cycles
+explanation_of c p = lines_of_first c p (cycle_count c p)
 
 -- why an explanation ends early
 abbrev pub IsCutShort : Failure → Type 0

@@ -6,6 +6,7 @@ use Rattle.ultra_msg.specs.declared.Op.TheVariants.{Load, Store, Faa, Swap}
 use Rattle.ultra_isa.specs.declared.Instr.{Instr}
 use Rattle.ultra_model.specs.Machine.{Settings}
 use Rattle.ultra_model.specs.Text.{newline, reply_text}
+use Rattle.ultra_model.specs.Trace.{cycle_count}
 use Rattle.ultra_serial_law.specs.declared.records.Entry.{Entry}
 use Rattle.ultra_serial_law.specs.SerialList.{serial_list}
 
@@ -25,6 +26,6 @@ order_line e =
 abbrev pub order_text : List Entry → List ℕ
 order_text entries = flat_map order_line entries
 
--- the serial order of a run, to its most cycles
+-- the serial order of the cycles that the trace has
 abbrev pub order_of : Settings → List Instr → List ℕ
-order_of c p = order_text (serial_list c p c.cycles)
+order_of c p = order_text (serial_list c p (cycle_count c p))

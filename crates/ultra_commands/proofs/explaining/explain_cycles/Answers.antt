@@ -6,6 +6,7 @@ use Rattle.ultra_machine.specs.Running.{Running}
 use Rattle.ultra_model.specs.Machine.{Settings, is_quiet}
 use Rattle.ultra_serial.proofs.Cycles.{cycles_after, running_start, running_next, history_start}
 use Rattle.ultra_commands.specs.Explanation.{lines_of_first}
+use Rattle.ultra_commands.proofs.LastCycle.{whole_lines}
 use Rattle.ultra_commands.proofs.Runs.{no_lines, quiet_lines, can_come, explained_next, written_next, begun_next, full_there}
 use Rattle.ultra_commands.proofs.explaining.explain_cycles.Goals as goal
 use Rattle.ultra_commands.proofs.explaining.explain_cycles.Goals.{else-loop-cycle-test, then-loop-cycle-test+in_ok-explain_cycle+then-is_quiet}
@@ -46,7 +47,7 @@ returns-in_err-explain_cycle-clause-err g c =
     let old = g.O.Sink.taken c.args.out.now in
     let waited = c.args.lines.now.bytes.items in
     let end : c.cycles-cycle-end.result ≡ v.cycles = c.cycles-cycle-end.ensures.value ∙ ap (λ (s : Settings). s.cycles) c.config.ensures in
-    rw r.1 (begun_next v p n c.events.result.now events c.loop-cycle.explainer c.loop-cycle.invariant.explainer old waited _ _ c.loop-cycle.invariant.written _ v.cycles (omega (arith, end)) c.in_err-explain_cycle.ensures.err)
+    rw (r.1, whole_lines v p) (begun_next v p n c.events.result.now events c.loop-cycle.explainer c.loop-cycle.invariant.explainer old waited _ _ c.loop-cycle.invariant.written _ v.cycles (omega (arith, end)) c.in_err-explain_cycle.ensures.err)
 
 pub returns-in_err-explain_cycle-clause-full : goal.returns-in_err-explain_cycle-clause-full
 returns-in_err-explain_cycle-clause-full g c =
@@ -92,12 +93,12 @@ returns-clause-ok g c =
     elim c.loop-cycle-test.branch [
       | else-loop-cycle-test w ↦
           let all : n ≡ v.cycles = omega (arith, end) in
-          rw (w.out-is, w.lines-is) (subst (λ k. AreTakenOrWait (lines_of_first v p k) old waited (g.O.Sink.taken c.loop-cycle.out) c.loop-cycle.lines.bytes.items) all c.loop-cycle.invariant.written)
+          rw (w.out-is, w.lines-is, whole_lines v p) (subst (λ k. AreTakenOrWait (lines_of_first v p k) old waited (g.O.Sink.taken c.loop-cycle.out) c.loop-cycle.lines.bytes.items) all c.loop-cycle.invariant.written)
       | then-loop-cycle-test+in_ok-explain_cycle+then-is_quiet w ↦
           let now = running_next v p c.loop-cycle.machine w.cycle.new.self n c.loop-cycle.invariant.machine w.cycle.ensures in
           let events = w.events.ensures ∙ ap (λ (r : Running). r.state.events) now in
           let found : is_quiet w.cycle.new.self.state ≡ true = search rules in
           let quiet = sym (ap (λ (r : Running). is_quiet r.state) now) ∙ found in
           let all = sym (quiet_lines v p (n + 1) v.cycles (omega (arith, end)) quiet) in
-          rw (w.out-is, w.lines-is) (subst (λ t. AreTakenOrWait t old waited (g.O.Sink.taken w.explain_cycle.new.out) w.explain_cycle.new.lines.bytes.items) all (written_next v p n w.events.result.now events e now_is old waited _ _ c.loop-cycle.invariant.written _ _ w.in_ok-explain_cycle.ensures.ok))
+          rw (w.out-is, w.lines-is, whole_lines v p) (subst (λ t. AreTakenOrWait t old waited (g.O.Sink.taken w.explain_cycle.new.out) w.explain_cycle.new.lines.bytes.items) all (written_next v p n w.events.result.now events e now_is old waited _ _ c.loop-cycle.invariant.written _ _ w.in_ok-explain_cycle.ensures.ok))
     ]

@@ -1,11 +1,12 @@
--- the order of a run is that of its settings' most cycles
-use Rattle.std.proofs.Common.{◌≡◌, ◌∙◌, ap, inl, refl}
+-- the order of the cycles that the trace has is that of all cycles that the settings allow
+use Rattle.std.proofs.Common.{◌≡◌, ◌∙◌, ap, inl, refl, sym}
 use Rattle.std.proofs.lemmas.Result.{err_from_is_err_and}
 use Rattle.ultra_msg.proofs.Parts.{at_error}
 use Rattle.ultra_msg.proofs.Prefixes.{takes_none}
 use Rattle.ultra_serial_law.specs.SerialList.{serial_list}
 use Rattle.ultra_serial.specs.Ordered.{Ordered, whole}
 use Rattle.ultra_commands.specs.Order.{order_of, order_text}
+use Rattle.ultra_commands.proofs.LastCycle.{whole_list}
 use Rattle.ultra_commands.proofs.serial_order.order_run.Goals as goal
 
 pub returns-in_err-run-clause-ok : goal.returns-in_err-run-clause-ok
@@ -25,14 +26,14 @@ pub returns-clause-ok : goal.returns-clause-ok
 returns-clause-ok g c =
     let inputs = c.args.inputs.now in
     let lines : order_text (whole c.in_ok-run.run') ≡ order_of inputs.config inputs.program =
-    ap (λ (r : Ordered). order_text (whole r)) c.in_ok-run.ensures ∙ ap (λ n. order_text (serial_list inputs.config inputs.program n)) c.cycles.ensures.value in
+    ap (λ (r : Ordered). order_text (whole r)) c.in_ok-run.ensures ∙ (ap (λ n. order_text (serial_list inputs.config inputs.program n)) c.cycles.ensures.value ∙ sym (ap order_text (whole_list inputs.config inputs.program))) in
     rw lines at c.write_order.ensures.ok
 
 pub returns-clause-err : goal.returns-clause-err
 returns-clause-err g c =
     let inputs = c.args.inputs.now in
     let lines : order_text (whole c.in_ok-run.run') ≡ order_of inputs.config inputs.program =
-    ap (λ (r : Ordered). order_text (whole r)) c.in_ok-run.ensures ∙ ap (λ n. order_text (serial_list inputs.config inputs.program n)) c.cycles.ensures.value in
+    ap (λ (r : Ordered). order_text (whole r)) c.in_ok-run.ensures ∙ (ap (λ n. order_text (serial_list inputs.config inputs.program n)) c.cycles.ensures.value ∙ sym (ap order_text (whole_list inputs.config inputs.program))) in
     rw lines at c.write_order.ensures.err
 
 pub returns-clause-stopped : goal.returns-clause-stopped
