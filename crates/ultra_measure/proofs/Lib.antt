@@ -9,6 +9,5 @@ pub mod Keeping
 pub mod Waiting
 pub mod ModuleCounts
 pub mod Chain
-pub mod Stalling
 pub mod Ends
 pub mod Windows

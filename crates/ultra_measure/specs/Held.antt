@@ -2,9 +2,8 @@
 -- module or a position
 use Rattle.std.specs.Prelude.{ℕ, List, not, length, ◌&&◌, ◌==◌, nat_lt}
 use Rattle.ultra_isa.specs.declared.Instr.{Instr}
-use Rattle.ultra_isa.specs.Step.{has_stopped}
+use Rattle.ultra_isa.specs.Step.{has_stopped, is_stall}
 use Rattle.ultra_model.specs.Machine.{Settings, Machine, lane_at, replies_at, module_at, element_at}
-use Rattle.ultra_measure.specs.Stalls.{is_stall}
 use Rattle.ultra_model.specs.Phases.{step_at}
 use Rattle.ultra_model.specs.Balance.{weight}
 use Rattle.ultra_block.specs.{IsSetOf}

@@ -1,6 +1,5 @@
 pub mod Window
 pub mod Happened
-pub mod Stalls
 pub mod Held
 pub mod Columns
 pub mod Texts

@@ -8,7 +8,6 @@ ghost use Rattle.ultra_measure.specs.Held.{running, stalled, opened, pending};
 ghost use Rattle.ultra_measure.specs.Kept.{AreElementSums, IsAfterCycle};
 ghost use Rattle.ultra_measure.specs.Window.{greatest};
 
-use crate::stalls::would_stall;
 use ultra_block::Blocks;
 
 /// How many processing elements run, how many of these would stall next, and how many cells are open, over all of them; and the same of the requests that aren't in the network yet, and the most that one has.
@@ -66,7 +65,11 @@ fn element_now(blocks: &Blocks, pe: u32) -> ElementsNow
     let pending = element.interface.pending_count() as u32;
     ElementsNow {
         running: u32::from(!element.processor.has_stopped()),
-        stalled: u32::from(would_stall(blocks.config(), blocks.program(), element)),
+        stalled: u32::from(
+            element
+                .processor
+                .would_stall(blocks.program(), &element.interface),
+        ),
         open: element.interface.open_count() as u32,
         pending,
         pending_most: pending,

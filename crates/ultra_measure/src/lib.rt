@@ -8,7 +8,6 @@ mod happened;
 mod measuring;
 mod queues;
 mod registers;
-mod stalls;
 mod window;
 
 pub use measuring::{Layout, measure};
