@@ -1,6 +1,6 @@
 //! The traces of the examples with the most places in queues and wait buffers, and with the fewest.
 
-/// Up to 9 requests stand in the queue, and up to 6 records in its wait buffer.
+/// The queue has up to 9 requests, and its wait buffer up to 6 records.
 pub(crate) const MOST_PLACES: &str = "\
 ultra trace 2
 cycle 0

@@ -23,7 +23,7 @@ is_of_worker workers w t = t.number % workers == w
 abbrev pub team : ℕ → ℕ → List BlockTask → List BlockTask
 team workers w tasks = filter (is_of_worker workers w) tasks
 
--- so many of n workers have a block of `count`, the first ones; there is always one
+-- how many of n workers have one of `count` blocks: the first of them, and at least one
 abbrev pub busy_workers : ℕ → ℕ → ℕ
 busy_workers workers count = max (min workers count) 1
 

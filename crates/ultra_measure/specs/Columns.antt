@@ -20,13 +20,13 @@ abbrev pub number_if : Option ℕ → Option (List ℕ)
 number_if None = None
 number_if (Some n) = number n
 
--- of so many thousandths, with three decimals
+-- a number of thousandths, with three decimals
 abbrev pub thousandths_text : ℕ → List ℕ
 thousandths_text t =
     decimal (t / 1000) ++ codes "." ++ decimal (t / 100 % 10) ++ decimal (t / 10 % 10)
     ++ decimal (t % 10)
 
--- the mean of so many numbers with this sum, rounded down
+-- a mean: a sum divided by a count, rounded down; none where the count is 0
 abbrev pub mean_if : ℕ → ℕ → Option (List ℕ)
 mean_if sum zero = None
 mean_if sum (suc n) = Some (thousandths_text (sum * 1000 / suc n))

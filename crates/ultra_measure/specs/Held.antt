@@ -46,7 +46,7 @@ replies s m y = length (replies_at m s y)
 abbrev pub records : ℕ → Machine → ℕ → ℕ
 records s m x = length (lane_at m s x).records
 
--- of what has so many places: whether all are taken; what has no place is never full
+-- whether all places are taken; what has no place is never full
 abbrev pub is_full : ℕ → ℕ → ℕ
 is_full places held = weight (nat_lt 0 places && (held == places))
 

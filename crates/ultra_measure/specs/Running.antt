@@ -26,7 +26,7 @@ module _ (c : Settings) (program : List Instr) where
     pub busy : (j : ℕ) → 1 ≤ j → j ≤ n → is_quiet (after c program j) ≡ false
     pub within : n < c.cycles
 
-  -- the cycles of a window were made, from `from` on: so many, or fewer where the run ended
+  -- the cycles of a window were made, from `from` on: all, or fewer where the run ended
   pub record IsWindowRun (from every : ℕ) (b : BlocksState) (t : OpenTable)
       (r : WindowRun) : Type 0 where
     pub now : AreAfter r.to b t

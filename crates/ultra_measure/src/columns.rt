@@ -354,7 +354,7 @@ fn put_value<S: Sink>(buffer: &mut TextBuffer<'_, S>, value: Value)
     }
 }
 
-/// Writes so many thousandths, with three decimals.
+/// Writes a number of thousandths, with three decimals.
 fn put_thousandths<S: Sink>(buffer: &mut TextBuffer<'_, S>, number: u64)
     ensures { Writes S.taken S.failures (thousandths_text number) buffer.old buffer.new }
 {

@@ -106,7 +106,7 @@ pub(crate) fn depths_now(blocks: &Blocks, held: Held) -> DepthsNow
     now
 }
 
-/// What a stage holds of a kind, by code that is compiled apart for small machines.
+/// What a stage holds of a kind. Small machines use a specialised copy.
 fn depth_of_one(blocks: &Blocks, held: Held, holders: &UnitSet, stage: u32) -> Depth
     requires stage { stage < blocks.now.config.stages }
     requires holders { AreUnitsWith blocks.now held holders.now }

@@ -109,7 +109,7 @@ fn put_names<S: Sink>(buffer: &mut TextBuffer<'_, S>, blocks: &Blocks)
     put_row(buffer, Form::Names, blocks, &window, 0, None);
 }
 
-/// Runs a machine from its start to the end of its run, and writes the measures of each window of so many cycles. It ends early where the sink fails.
+/// Runs a machine from its start to the end of its run, and writes the measures of each window of `every` cycles. It ends early where the sink fails.
 fn put_windows<S: Sink>(
     buffer: &mut TextBuffer<'_, S>,
     blocks: &mut Blocks,
@@ -147,7 +147,7 @@ pub(crate) struct WindowRun {
     pub(crate) ended: Option<bool>,
 }
 
-/// Makes the cycles of a window, from a cycle on: so many, or fewer where the run ends.
+/// Makes the cycles of a window, from a cycle on: all, or fewer where the run ends.
 fn run_window(blocks: &mut Blocks, table: &mut OpenTable, from: u32, every: u32) -> WindowRun
     requires some { 1 ≤ every }
     requires start { IsOn blocks.old.config blocks.old.program from blocks.old table.old }

@@ -31,7 +31,7 @@ pub(crate) fn outputs_now(blocks: &Blocks) -> u32
     modules_that_hold(blocks, Held::Reply)
 }
 
-/// How many modules hold something of a kind, by code that is compiled apart for small machines.
+/// How many modules hold something of a kind. Small machines use a specialised copy.
 fn modules_that_hold(blocks: &Blocks, held: Held) -> u32
     requires { blocks.now.count ≡ 1 }
     ensures value { result ≡ total (size blocks.now.config) (held_in_module held blocks.now.machine) }
