@@ -1,13 +1,17 @@
 //! Machines whose cycles are made by several workers.
 
 use crate::blocks::{element, event_is, lane, memory_module, replies, tree_is_answered};
+use crate::meeting::MeetingOfThree;
+use crate::memory_sink::MemorySink;
 use std::alloc::Global;
 use std::process::Abort;
 use std::sync::Wait;
 use std::sync::atomic::Ordering;
 use std::test::Fail;
 use std::thread::Threads;
-use test_support::{Counter, Holdup, Meeting, add_number, config, register};
+use test_support::{
+    COMBINED_PAIR, Counter, Holdup, Meeting, add_number, add_one, config, register,
+};
 use ultra_crew::{Crew, CrewFault, Gate, cycle_alone};
 use ultra_isa::{Activity, MachineFault, Processor};
 use ultra_machine::{Blocks, ProcessingElement};
@@ -15,9 +19,10 @@ use ultra_mem::Module;
 use ultra_model::Stop;
 use ultra_msg::{Pe, Request};
 use ultra_switch::{ToMm, ToPe};
+use ultra_trace::run;
 
 /// The machine in which each processing element adds its number and 1 to cell 0, before its first cycle, in this partition.
-fn additions(alloc: Global, stages: i64, partition: &[u8]) -> Result<Blocks, Fail> {
+pub(crate) fn additions(alloc: Global, stages: i64, partition: &[u8]) -> Result<Blocks, Fail> {
     let config = config(alloc, stages)?;
     let program = add_number(alloc)?;
     Ok(Blocks::new(alloc, &config, &program, partition)?)
@@ -37,15 +42,17 @@ fn make_cycle<R: Threads + Wait + Sync + Abort, G: Gate + Sync>(
     Crew::cycle(rt, alloc, blocks, workers, gate)
 }
 
-/// Makes n cycles of the machine of one stage in two blocks, each by two workers.
-fn cycles_by_two<R: Threads + Wait + Sync + Abort + AllocGlobal, G: Gate + Sync>(
+/// Makes n cycles of the machine of one stage in this partition, each by these workers.
+fn cycles_by<R: Threads + Wait + Sync + Abort + AllocGlobal, G: Gate + Sync>(
     rt: &R,
+    partition: &[u8],
+    workers: usize,
     gate: &G,
     count: u32,
 ) -> Result<(), Fail> {
-    let mut blocks = additions(rt.alloc(), 1, &[0, 1, 0, 1, 0])?;
+    let mut blocks = additions(rt.alloc(), 1, partition)?;
     for _ in 0..count {
-        blocks = make_cycle(rt, rt.alloc(), blocks, 2, gate)?;
+        blocks = make_cycle(rt, rt.alloc(), blocks, workers, gate)?;
     }
     Ok(())
 }
@@ -65,22 +72,30 @@ fn by_kept<R: Threads + Wait + Sync + Abort, G: Gate + Sync>(
     Crew::cycles(rt, alloc, blocks, workers, gate, count)
 }
 
-/// Makes n cycles of the machine of one stage in two blocks, by two workers whose threads are kept.
-fn cycles_by_kept_two<R: Threads + Wait + Sync + Abort + AllocGlobal, G: Gate + Sync>(
+/// Makes n cycles of the machine of one stage in this partition, by these workers, whose threads are kept.
+fn cycles_by_kept<R: Threads + Wait + Sync + Abort + AllocGlobal, G: Gate + Sync>(
     rt: &R,
+    partition: &[u8],
+    workers: usize,
     gate: &G,
     count: u32,
 ) -> Result<(), Fail> {
-    let blocks = additions(rt.alloc(), 1, &[0, 1, 0, 1, 0])?;
-    let _ = by_kept(rt, rt.alloc(), blocks, 2, gate, count)?;
+    let blocks = additions(rt.alloc(), 1, partition)?;
+    let _ = by_kept(rt, rt.alloc(), blocks, workers, gate, count)?;
     Ok(())
 }
+
+/// The five units of one stage in two blocks with work.
+const TWO_BLOCKS: &[u8] = &[0, 1, 0, 1, 0];
+
+/// The five units of one stage in three blocks with work.
+const THREE_BLOCKS: &[u8] = &[0, 1, 2, 0, 1];
 
 /// Two blocks with work and two workers: in every half each worker waits for the other at the gate. A crew that makes all blocks in one thread keeps the contracts too, but fails this test: the turns run out, or no flag is raised where it calls no gate.
 #[test]
 fn gate_meets(rt: HostRuntime) -> Result<(), Fail> {
     let meeting = Meeting::new();
-    cycles_by_two(&rt, &meeting, 8)?;
+    cycles_by(&rt, TWO_BLOCKS, 2, &meeting, 8)?;
     assert_eq!(rt; meeting.halves_met(), Some(8 * 6));
     Ok(())
 }
@@ -89,7 +104,37 @@ fn gate_meets(rt: HostRuntime) -> Result<(), Fail> {
 #[test]
 fn gate_meets_when_kept(rt: HostRuntime) -> Result<(), Fail> {
     let meeting = Meeting::new();
-    cycles_by_kept_two(&rt, &meeting, 8)?;
+    cycles_by_kept(&rt, TWO_BLOCKS, 2, &meeting, 8)?;
+    assert_eq!(rt; meeting.halves_met(), Some(8 * 6));
+    Ok(())
+}
+
+/// Three blocks with work and three workers: in every half each worker waits for the two others at the gate. With two threads the turns run out, since one of them has two blocks.
+#[test]
+fn three_meet(rt: HostRuntime) -> Result<(), Fail> {
+    let meeting = MeetingOfThree::new();
+    cycles_by(&rt, THREE_BLOCKS, 3, &meeting, 8)?;
+    assert_eq!(rt; meeting.halves_met(), Some(8 * 6));
+    Ok(())
+}
+
+#[test]
+fn three_meet_when_kept(rt: HostRuntime) -> Result<(), Fail> {
+    let meeting = MeetingOfThree::new();
+    cycles_by_kept(&rt, THREE_BLOCKS, 3, &meeting, 8)?;
+    assert_eq!(rt; meeting.halves_met(), Some(8 * 6));
+    Ok(())
+}
+
+/// A run by three workers, whose units are dealt to three blocks.
+#[test]
+fn three_meet_in_a_run(rt: HostRuntime) -> Result<(), Fail> {
+    let config = config(rt.alloc(), 1)?;
+    let program = add_one(rt.alloc())?;
+    let meeting = MeetingOfThree::new();
+    let mut out = MemorySink::new(&rt);
+    run(&rt, rt.alloc(), &config, &program, 3, &meeting, &mut out)?;
+    assert_eq!(rt; out.text(), COMBINED_PAIR);
     assert_eq!(rt; meeting.halves_met(), Some(8 * 6));
     Ok(())
 }
@@ -278,7 +323,7 @@ fn kept_workers(rt: HostRuntime) -> Result<(), Fail> {
 #[test]
 fn one_cycle_by_two(rt: HostRuntime) -> Result<(), Fail> {
     let gate = Counter::new();
-    cycles_by_two(&rt, &gate, 1)?;
+    cycles_by(&rt, TWO_BLOCKS, 2, &gate, 1)?;
     assert_eq!(rt; gate.calls.load(Ordering::SeqCst), 2 * 6);
     Ok(())
 }
@@ -287,7 +332,7 @@ fn one_cycle_by_two(rt: HostRuntime) -> Result<(), Fail> {
 #[test]
 fn two_cycles_by_two(rt: HostRuntime) -> Result<(), Fail> {
     let gate = Counter::new();
-    cycles_by_kept_two(&rt, &gate, 2)?;
+    cycles_by_kept(&rt, TWO_BLOCKS, 2, &gate, 2)?;
     assert_eq!(rt; gate.calls.load(Ordering::SeqCst), 2 * 2 * 6);
     Ok(())
 }

@@ -9,8 +9,14 @@ mod crews;
 #[cfg(test)]
 mod cuts;
 #[cfg(test)]
+mod empty_blocks;
+#[cfg(test)]
 mod hot_spots;
 #[cfg(test)]
 mod machines;
+#[cfg(test)]
+mod meeting;
+#[cfg(test)]
+mod memory_sink;
 #[cfg(test)]
 mod partitions;
