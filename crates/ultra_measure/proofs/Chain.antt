@@ -7,7 +7,7 @@ use Rattle.std.proofs.lemmas.List.Concat.{flat_map-append}
 use Rattle.ultra_io.specs.declared.text_buffer.TextBuffer.{TextBuffer}
 use Rattle.ultra_io.specs.TextBuffer.{Writes}
 use Rattle.ultra_io.proofs.Writing.{◌then◌}
-use Rattle.ultra_trace_text.proofs.Numbered.{range_parts}
+use Rattle.ultra_holders.proofs.Skipped.{range_parts}
 use Rattle.ultra_measure.specs.declared.columns.Form.{Form}
 use Rattle.ultra_measure.specs.declared.columns.Form.TheVariants.{Lines, Names, Values}
 use Rattle.ultra_measure.specs.Columns.{Column, number}

@@ -12,7 +12,8 @@ use Rattle.ultra_io.specs.TextBuffer.{Writes, WritesPrefix}
 use Rattle.ultra_trace_alone.specs.BlocksAfter.{IsAfter}
 use Rattle.ultra_model.specs.Trace.{by_number, cycle_text, cycles_text, cycle_count, all_cycles_text, last_state, end_text}
 use Rattle.ultra_io.proofs.Writing.{either, writes_failed, writes_spent}
-use Rattle.ultra_trace_text.proofs.Numbered.{range_parts, writes_number}
+use Rattle.ultra_holders.proofs.Skipped.{range_parts}
+use Rattle.ultra_trace_text.proofs.Numbered.{writes_number}
 
 -- ---- the first number of a range that passes a test
 module _ (test : ℕ → Bool) where
