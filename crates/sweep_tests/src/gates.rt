@@ -54,7 +54,11 @@ impl JobGate for Meeting {
     }
 }
 
-/// A gate that counts the runs, and how often one began while another was under way.
+/// How often a run yields, so that another thread can begin a run beside it.
+const YIELDS: usize = 100_000;
+
+/// A gate that counts the runs, and how often one began while another was under way. Each run gives
+/// way to other threads first.
 #[derive(Drop)]
 pub(crate) struct Counter {
     pub(crate) runs: AtomicU64,
@@ -84,6 +88,9 @@ impl JobGate for Counter {
         self.runs.fetch_add(1, Ordering::SeqCst);
         if self.under_way.fetch_add(1, Ordering::SeqCst) > 0 {
             self.beside.fetch_add(1, Ordering::SeqCst);
+        }
+        for _ in 0..YIELDS {
+            thread::yield_now();
         }
         let result = RunAlone.run(rt, alloc, seat, number, job);
         self.under_way.fetch_sub(1, Ordering::SeqCst);

@@ -4,7 +4,7 @@ ghost use Rattle.std.specs.Prelude.{◌≡◌};
 
 use crate::boards::split;
 use crate::gates::{Counter, Meeting};
-use crate::jobs::two_jobs;
+use crate::jobs::{most_jobs, two_jobs};
 use crate::memory_sink::MemorySink;
 use std::process::Abort;
 use std::sync::Wait;
@@ -12,8 +12,10 @@ use std::sync::atomic::Ordering;
 use std::test::Fail;
 use std::thread::{self, Threads};
 use ultra_board::Board;
+use ultra_msg::write_all;
 use ultra_sweep::{Job, JobGate, JobResult, WorkFault, gather, report, work};
 use ultra_sweep_command::RunAlone;
+use ultra_trace_alone::run_alone;
 
 /// The report of a job that halts at once, and of one in which two processing elements add 1 each
 /// to cell 0.
@@ -107,6 +109,38 @@ fn two_job_sweep(rt: HostRuntime) -> Result<(), Fail> {
     check_report(&rt, sweep_alone(&rt, jobs.as_slice())?)?;
     for at_once in [1, 2, 64] {
         check_report(&rt, sweep_by_two(&rt, jobs.as_slice(), at_once, &RunAlone)?)?;
+    }
+    Ok(())
+}
+
+/// The report of the runs of all jobs, in order, by the thread of the test and without a sweep.
+fn report_of_runs<'r, R: Abort + AllocGlobal>(
+    rt: &'r R,
+    jobs: &[Job],
+) -> Result<MemorySink<'r, R>, Fail> {
+    let mut out = MemorySink::failing_after(rt, usize::MAX);
+    for (number, job) in jobs.iter().enumerate() {
+        let line = format!(in rt.alloc(); "job {number}\n")?;
+        write_all(&mut out, line.as_bytes())?;
+        run_alone(rt.alloc(), &job.config, &job.program, &mut out)?;
+    }
+    Ok(out)
+}
+
+/// As many jobs as a sweep may have, by two threads: the report is that of their runs in order.
+#[test]
+fn most_jobs_in_order(rt: HostRuntime) -> Result<(), Fail> {
+    let jobs = most_jobs(rt.alloc())?;
+    let wanted = report_of_runs(&rt, jobs.as_slice())?;
+    assert!(rt;
+        wanted.text()?.ends_with("\nend quiet\npe 0 halted 1 r1=255\npe 1 halted 1 r1=255\n")
+    );
+    for at_once in [1, 2] {
+        let results = sweep_by_two(&rt, jobs.as_slice(), at_once, &RunAlone)?;
+        let gathered = gather(rt.alloc(), 256, results)?;
+        let mut out = MemorySink::failing_after(&rt, usize::MAX);
+        report(&gathered, &mut out)?;
+        assert_eq!(rt; out.text()?, wanted.text()?);
     }
     Ok(())
 }
