@@ -13,11 +13,39 @@ fn parsed<'w>(alloc: Global, words: &'w [&'w str]) -> Result<Parsed<'w>, Fail> {
     }
 }
 
-/// The command that the words ask for.
-fn command_of<'w>(alloc: Global, words: &'w [&'w str]) -> Result<Invocation<'w>, Fail> {
-    match parsed(alloc, words)? {
-        Parsed::Invocation(command) => Ok(command),
-        _ => Err("no command".into()),
+/// The paths of a run, and its number of workers.
+fn run_of<'w>(parsed: &Parsed<'w>) -> Option<(&'w str, &'w str, usize)> {
+    match parsed {
+        Parsed::Invocation(
+            Invocation::Run {
+                settings,
+                program,
+                workers,
+            },
+        ) => Some((settings, program, workers.count())),
+        _ => None,
+    }
+}
+
+/// The paths of an order.
+fn order_of<'w>(parsed: &Parsed<'w>) -> Option<(&'w str, &'w str)> {
+    match parsed {
+        Parsed::Invocation(Invocation::Order { settings, program }) => Some((settings, program)),
+        _ => None,
+    }
+}
+
+/// The paths of an explanation, and the bytes of its heap.
+fn explanation_of<'w>(parsed: &Parsed<'w>) -> Option<(&'w str, &'w str, usize)> {
+    match parsed {
+        Parsed::Invocation(
+            Invocation::Explain {
+                settings,
+                program,
+                heap,
+            },
+        ) => Some((settings, program, heap.count())),
+        _ => None,
     }
 }
 
@@ -63,16 +91,12 @@ static RUNS: [(&[&str], usize); 5] = [
 #[test]
 fn a_run_is_asked_for(rt: HostRuntime) -> Result<(), Fail> {
     for (words, count) in &RUNS {
-        let Invocation::Run {
-            settings,
-            program,
-            workers,
-        } = command_of(rt.alloc(), words)?
-        else {
+        let parsed = parsed(rt.alloc(), words)?;
+        let Some((settings, program, workers)) = run_of(&parsed) else {
             return Err("no run".into());
         };
         check_files(&rt, words, settings, program);
-        assert_eq!(rt; workers.count(), *count, "{words:?}");
+        assert_eq!(rt; workers, *count, "{words:?}");
     }
     Ok(())
 }
@@ -80,7 +104,8 @@ fn a_run_is_asked_for(rt: HostRuntime) -> Result<(), Fail> {
 #[test]
 fn an_order_is_asked_for(rt: HostRuntime) -> Result<(), Fail> {
     let words = ["ultra", "order", "c.toml", "p.s"];
-    let Invocation::Order { settings, program } = command_of(rt.alloc(), &words)? else {
+    let parsed = parsed(rt.alloc(), &words)?;
+    let Some((settings, program)) = order_of(&parsed) else {
         return Err("no order".into());
     };
     check_files(&rt, &words, settings, program);
@@ -100,16 +125,12 @@ static EXPLANATIONS: [(&[&str], usize); 3] = [
 #[test]
 fn an_explanation_is_asked_for(rt: HostRuntime) -> Result<(), Fail> {
     for (words, bytes) in &EXPLANATIONS {
-        let Invocation::Explain {
-            settings,
-            program,
-            heap,
-        } = command_of(rt.alloc(), words)?
-        else {
+        let parsed = parsed(rt.alloc(), words)?;
+        let Some((settings, program, heap)) = explanation_of(&parsed) else {
             return Err("no explanation".into());
         };
         check_files(&rt, words, settings, program);
-        assert_eq!(rt; heap.count(), *bytes, "{words:?}");
+        assert_eq!(rt; heap, *bytes, "{words:?}");
     }
     Ok(())
 }

@@ -16,6 +16,24 @@ use ultra_msg::{Cell, Word};
 use ultra_para::Para;
 use ultra_settings::settings_from;
 
+/// Numbers that look random, from a seed.
+#[derive(Drop)]
+struct Random(u64);
+
+impl Random {
+    /// A number below a bound.
+    fn below(&mut self, bound: u32) -> u32
+        requires { 1 ≤ bound }
+        ensures { result < bound }
+    {
+        self.0 = self
+            .0
+            .wrapping_mul(6_364_136_223_846_793_005)
+            .wrapping_add(1_442_695_040_888_963_407);
+        (self.0 >> 32) as u32 % bound
+    }
+}
+
 /// Four processing elements. All other settings have their defaults.
 const SETTINGS: &[u8] = b"stages = 2";
 
@@ -38,24 +56,6 @@ turn:   ld r4 r1
         fence
         halt
 ";
-
-/// Numbers that look random, from a seed.
-#[derive(Drop)]
-struct Random(u64);
-
-impl Random {
-    /// A number below a bound.
-    fn below(&mut self, bound: u32) -> u32
-        requires { 1 ≤ bound }
-        ensures { result < bound }
-    {
-        self.0 = self
-            .0
-            .wrapping_mul(6_364_136_223_846_793_005)
-            .wrapping_add(1_442_695_040_888_963_407);
-        (self.0 >> 32) as u32 % bound
-    }
-}
 
 /// Runs the lock under a schedule drawn from the seed.
 ///
