@@ -17,29 +17,39 @@ fn first_and_last(alloc: Global) -> Result<Vec<u8>, Fail> {
     Ok(partition)
 }
 
-/// Makes a cycle, and writes its lines.
-fn write_next<R: Abort>(
+/// Makes twenty cycles, and writes their lines. Every processing element has its reply by then.
+fn write_twenty<R: Abort>(
     rt: &R,
-    blocks: &mut Blocks,
+    mut blocks: Blocks,
     out: &mut MemorySink<'_, R>,
 ) -> Result<(), Fail> {
-    assert!(rt; blocks.done() < 1000);
-    blocks.cycle();
-    Ok(write_cycle(blocks, out)?)
+    for _ in 0..20_u32 {
+        assert!(rt; blocks.done() < 1000);
+        blocks.cycle();
+        assert!(rt; blocks.done() > 0);
+        if write_cycle(&blocks, out).is_err() {
+            return Err(Fail::from("not written"));
+        }
+    }
+    Ok(())
 }
 
-/// Twenty cycles have the same bytes as in one block. Every processing element has its reply by then.
+/// The lines of twenty cycles of the largest machine in this partition.
+fn lines_of<R: Abort + AllocGlobal>(rt: &R, partition: &[u8]) -> Result<String, Fail> {
+    let blocks = additions(rt.alloc(), 6, partition)?;
+    let mut out = MemorySink::new(rt);
+    write_twenty(rt, blocks, &mut out)?;
+    let lines = out.text();
+    Ok(format!(in rt.alloc(); "{lines}")?)
+}
+
+/// The bytes are the same as in one block.
 #[test]
 fn same_bytes_as_one_block(rt: HostRuntime) -> Result<(), Fail> {
-    let mut alone = additions(rt.alloc(), 6, &[0; 320])?;
-    let mut apart = additions(rt.alloc(), 6, first_and_last(rt.alloc())?.as_slice())?;
-    let mut wanted = MemorySink::new(&rt);
-    let mut written = MemorySink::new(&rt);
-    for _ in 0..20u32 {
-        write_next(&rt, &mut alone, &mut wanted)?;
-        write_next(&rt, &mut apart, &mut written)?;
-    }
-    assert!(rt; wanted.text().contains("\ngot "), "{}", wanted.text());
-    assert_eq!(rt; written.text(), wanted.text());
+    let wanted = lines_of(&rt, &[0; 320])?;
+    let partition = first_and_last(rt.alloc())?;
+    let written = lines_of(&rt, partition.as_slice())?;
+    assert!(&rt; wanted.as_str().contains("\ngot "), "{wanted}");
+    assert_eq!(&rt; written.as_str(), wanted.as_str());
     Ok(())
 }
