@@ -1,4 +1,3 @@
-pub mod Lines
 pub mod Firsts
 pub mod InRange
 pub mod Runs

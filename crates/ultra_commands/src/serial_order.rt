@@ -1,19 +1,19 @@
 //! The command `order`: it writes the serial order of a run.
 
-ghost use Rattle.std.specs.Prelude.{◌≡◌, ◌+◌, ◌++◌, false, codes, decimal, IfErr, OnErr, OnOk};
+ghost use Rattle.std.specs.Prelude.{◌≡◌, ◌+◌, ◌++◌, false, IfErr, OnErr, OnOk};
 ghost use Rattle.ultra_msg.specs.Bytes.{TakesPrefix};
 ghost use Rattle.ultra_io.specs.TextBuffer.{Writes, WritesPrefix, has_failed};
-ghost use Rattle.ultra_model.specs.Text.{reply_text};
 ghost use Rattle.ultra_serial.specs.Ordered.{whole};
 ghost use Rattle.ultra_inputs.specs.Failure.{read_failures, write_failures};
-ghost use Rattle.ultra_commands.specs.Order.{operation_text, order_line, order_of, order_text};
+ghost use Rattle.ultra_commands.specs.Order.{order_of, order_text};
 ghost use Rattle.ultra_inputs.specs.Traffic.{traffic, IsStopped, WroteText, TextFails};
 
 use std::alloc::{AllocError, Global};
 use ultra_inputs::{Failure, Inputs, read_inputs};
 use ultra_io::{Source, TextBuffer};
-use ultra_msg::{Cell, Op, Reply, Sink};
-use ultra_serial::{Entry, OrderedRun};
+use ultra_list::put_entries;
+use ultra_msg::Sink;
+use ultra_serial::OrderedRun;
 
 /// Reads settings and a program, and writes the serial order of the run to `out`, a line for each
 /// request that was served. Each file is accepted before the next is read, and both before a byte
@@ -96,63 +96,4 @@ fn put_order<O: Sink>(
         put_entries(buffer, run.entries());
     }
     Ok(())
-}
-
-/// Puts the lines of some requests with their replies in a buffer.
-fn put_entries<O: Sink>(buffer: &mut TextBuffer<'_, O>, entries: &[Entry])
-    ensures { Writes O.taken O.failures (order_text entries.now) buffer.old buffer.new }
-{
-    for entry in entries {
-        put_line(buffer, entry);
-    }
-}
-
-/// Puts the line of a request with its reply in a buffer, as `0.0 faa 0 1 = 1`.
-fn put_line<O: Sink>(buffer: &mut TextBuffer<'_, O>, entry: &Entry)
-    ensures { Writes O.taken O.failures (order_line entry.now) buffer.old buffer.new }
-{
-    buffer.put_number(entry.pe);
-    buffer.put(b".");
-    buffer.put_number(entry.number);
-    buffer.put(b" ");
-    put_operation(buffer, entry.op, entry.cell);
-    buffer.put(b" = ");
-    put_reply(buffer, entry.reply);
-    buffer.put(b"\n");
-}
-
-/// Puts an operation on a cell in a buffer, as `faa 0 1`.
-fn put_operation<O: Sink>(buffer: &mut TextBuffer<'_, O>, op: Op, cell: Cell)
-    ensures { Writes O.taken O.failures (operation_text op cell) buffer.old buffer.new }
-{
-    match op {
-        Op::Load => {
-            buffer.put(b"load ");
-            buffer.put_number(cell);
-        }
-        Op::Store(word) => put_numbers(buffer, b"store ", cell, word),
-        Op::Faa(word) => put_numbers(buffer, b"faa ", cell, word),
-        Op::Swap(word) => put_numbers(buffer, b"swap ", cell, word),
-    }
-}
-
-/// Puts a reply in a buffer: its value, or `ack`.
-fn put_reply<O: Sink>(buffer: &mut TextBuffer<'_, O>, reply: Reply)
-    ensures { Writes O.taken O.failures (reply_text reply) buffer.old buffer.new }
-{
-    match reply {
-        Reply::Value(word) => buffer.put_number(word),
-        Reply::Ack => buffer.put(b"ack"),
-    }
-}
-
-/// Puts bytes in a buffer, then a number, a blank and another number.
-fn put_numbers<O: Sink>(buffer: &mut TextBuffer<'_, O>, bytes: &[u8], first: u32, second: u32)
-    ensures { Writes O.taken O.failures
-        (bytes.now ++ decimal first ++ codes " " ++ decimal second) buffer.old buffer.new }
-{
-    buffer.put(bytes);
-    buffer.put_number(first);
-    buffer.put(b" ");
-    buffer.put_number(second);
 }

@@ -1,8 +1,9 @@
-//! The text of a serial list, and its reader. The text form is this project's profile.
+//! The text of a serial list, its writer and its reader. The text form is this project's profile.
 #![tactic(auto)]
 
 mod line;
 mod number;
+mod writing;
 
 ghost use Rattle.std.specs.Prelude.{◌≡◌, List, IfOk, IfErr};
 ghost use Rattle.ultra_serial_law.specs.declared.records.Entry.{Entry as EntryOf};
@@ -12,6 +13,7 @@ ghost use Rattle.ultra_list.specs.Faults.{ExplainsListFault, IsReadAs};
 use line::entry_at;
 use std::alloc::{AllocFailed, Global};
 use ultra_serial_law::SerialList;
+pub use writing::{put_entries, put_entry, put_entry_line, put_reply};
 
 /// Why a text isn't read as a list.
 #[derive(Clone, Copy, PartialEq, Eq, Debug, Drop)]

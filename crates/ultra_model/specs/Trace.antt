@@ -116,11 +116,12 @@ state_text c m =
     ++ by_number (size c) (out_lines m)
     ++ by_stage c (rep_lines m)
 
+-- the line that names the cycle
+abbrev pub cycle_line : Machine → List ℕ
+cycle_line m = codes "cycle " ++ decimal (m.cycles - 1) ++ newline
+
 unfoldable pub cycle_text : Settings → Machine → List ℕ
-cycle_text c m =
-    codes "cycle " ++ decimal (m.cycles - 1) ++ newline
-    ++ events_text m.events m.stops
-    ++ state_text c m
+cycle_text c m = cycle_line m ++ events_text m.events m.stops ++ state_text c m
 
 -- ---- the end
 abbrev pub ending_text : Bool → List ℕ
@@ -163,6 +164,10 @@ end_text c m =
     ++ by_number (size c) (pe_lines m)
 
 -- ---- the whole
+-- the line that names the format
+abbrev pub first_line : List ℕ
+first_line = codes "ultra trace 2" ++ newline
+
 module _ (c : Settings) (program : List Instr) where
   -- how many cycles the trace has: up to the first after which the machine is quiet, or else as
   -- many as the settings allow
@@ -181,4 +186,4 @@ module _ (c : Settings) (program : List Instr) where
   last_state = after c program cycle_count
 
   unfoldable pub trace : List ℕ
-  trace = codes "ultra trace 2" ++ newline ++ all_cycles_text ++ end_text c last_state
+  trace = first_line ++ all_cycles_text ++ end_text c last_state

@@ -52,7 +52,7 @@ fn put_ending<S: Sink>(buffer: &mut TextBuffer<'_, S>, quiet: bool)
 }
 
 /// Writes the line of a cell, as `cell 5 1`, if its value isn't 0.
-fn put_cell<S: Sink>(buffer: &mut TextBuffer<'_, S>, address: Cell, value: Word)
+pub fn put_cell<S: Sink>(buffer: &mut TextBuffer<'_, S>, address: Cell, value: Word)
     ensures { Writes S.taken S.failures (cell_line address value) buffer.old buffer.new }
 {
     if value > 0 {
@@ -64,7 +64,7 @@ fn put_cell<S: Sink>(buffer: &mut TextBuffer<'_, S>, address: Cell, value: Word)
 }
 
 /// Writes the line of a processing element, as `pe 0 halted 3 r2=1`: what it is doing, its program counter, and its registers that aren't 0.
-fn put_pe<S: Sink>(buffer: &mut TextBuffer<'_, S>, pe: Pe, processor: &Processor)
+pub fn put_pe<S: Sink>(buffer: &mut TextBuffer<'_, S>, pe: Pe, processor: &Processor)
     ensures { Writes S.taken S.failures (pe_line pe processor.now.core) buffer.old buffer.new }
 {
     buffer.put(b"pe ");

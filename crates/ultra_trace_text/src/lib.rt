@@ -10,4 +10,4 @@ mod state;
 mod texts;
 
 pub use cycle::{put_cycle, write_cycle};
-pub use ending::put_end;
+pub use ending::{put_cell, put_end, put_pe};

@@ -5,7 +5,7 @@ use Rattle.ultra_io.proofs.Writing.{◌then◌, writes_failed, writes_nothing}
 use Rattle.ultra_serial.specs.Ordered.{Ordered, list_so_far, whole}
 use Rattle.ultra_serial.proofs.Advancing.{nothing_listed}
 use Rattle.ultra_commands.specs.Order.{order_text}
-use Rattle.ultra_commands.proofs.Lines.{prefix_of_text, text-append}
+use Rattle.ultra_list.proofs.EntryLines.{prefix_of_text, text-append}
 use Rattle.ultra_commands.proofs.serial_order.put_order.Goals as goal
 
 pub loop-run-init : goal.loop-run-init

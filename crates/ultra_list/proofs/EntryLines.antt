@@ -4,7 +4,7 @@ use Rattle.std.proofs.lemmas.List.{take_more}
 use Rattle.std.proofs.lemmas.Grind.{flat_map-append}
 use Rattle.ultra_msg.specs.Bytes.{IsPrefix}
 use Rattle.ultra_serial_law.specs.declared.records.Entry.{Entry}
-use Rattle.ultra_commands.specs.Order.{order_line, order_text}
+use Rattle.ultra_list.specs.SerialText.{order_line, order_text}
 
 -- the lines so far, with one more
 pub one_more : (es : List Entry) (k : ℕ) (d : Entry) → k < length es → order_text (take k es) ++ order_line (get_or es k d) ≡ order_text (take (k + 1) es)

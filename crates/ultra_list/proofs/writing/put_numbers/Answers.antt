@@ -1,5 +1,5 @@
 use Rattle.ultra_io.proofs.Writing.{◌then◌}
-use Rattle.ultra_commands.proofs.serial_order.put_numbers.Goals as goal
+use Rattle.ultra_list.proofs.writing.put_numbers.Goals as goal
 
 pub returns : goal.returns
 returns g c = c.put.ensures then c.put_number.ensures then c.put-2.ensures then c.put_number-2.ensures

@@ -1,7 +1,0 @@
-use Rattle.std.proofs.Common.{take}
-use Rattle.ultra_io.specs.TextBuffer.{Writes}
-use Rattle.ultra_commands.specs.Order.{order_text}
-use Rattle.ultra_commands.proofs.serial_order.put_entries.Given as goal
-
-abbrev pub invariant-loop-entry : goal.invariant-loop-entry
-invariant-loop-entry g l = Writes g.O.Sink.taken g.O.Sink.failures (order_text (take l.entry-index l.entries)) l.initial.buffer l.buffer
