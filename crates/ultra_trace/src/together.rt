@@ -1,14 +1,15 @@
-//! A run by several workers.
+//! A run by several workers, and text that is written of it.
 
-ghost use Rattle.std.specs.Prelude.{◌≡◌, ◌+◌, ◌≤◌, ◌++◌, [], false, OnOk, OnErr, IfOk, IfErr};
+ghost use Rattle.std.specs.Prelude.{◌≡◌, ℕ, ◌+◌, ◌≤◌, ◌++◌, [], false, OnOk, OnErr, IfOk, IfErr};
 ghost use Rattle.std.specs.Result.{ForOk};
 ghost use Rattle.ultra_msg.specs.Bytes.{TakesPrefix};
 ghost use Rattle.ultra_io.specs.TextBuffer.{Writes, WritesPrefix, has_failed};
-ghost use Rattle.ultra_model.specs.Trace.{all_cycles_text, cycle_count, trace};
+ghost use Rattle.ultra_model.specs.Trace.{by_number, cycle_count};
 ghost use Rattle.ultra_crew.specs.ExpectedResults.{AreExpectedResults};
 ghost use Rattle.ultra_trace_alone.specs.Faults.{sink_faults};
 ghost use Rattle.ultra_trace_alone.specs.BlocksAfter.{IsAfter};
 ghost use Rattle.ultra_trace_alone.specs.Dealt.{IsDealtOut};
+ghost use Rattle.ultra_trace_alone.specs.RunText.{run_text};
 ghost use Rattle.ultra_trace.specs.Faults.{fault_of_crew};
 
 use std::alloc::Global;
@@ -18,35 +19,38 @@ use std::thread::{self, Threads};
 use ultra_crew::{Blocks, CrewFault, ExpectedResults, Gate, WorkerPool};
 use ultra_io::TextBuffer;
 use ultra_msg::Sink;
-use ultra_trace_alone::{RunFault, most_cycles, put_and_judge, put_first_line};
-use ultra_trace_text::put_end;
+use ultra_trace_alone::{RunFault, RunText, is_over, most_cycles};
 
-/// Runs a machine from its start by workers, and writes its trace to a sink. The workers' threads are kept for the whole run, and joined at its end. After a fault the sink has taken a prefix of the trace.
-pub fn write_trace_together<R: Threads + Wait + Sync, G: Gate + Sync, S: Sink>(
+/// Runs a machine from its start by workers, and writes text of its run to a sink. The workers' threads are kept for the whole run, and joined at its end. After a fault the sink has taken a prefix of the text.
+pub fn write_run_together<R: Threads + Wait + Sync, G: Gate + Sync, T: RunText, S: Sink>(
     rt: &R,
     alloc: Global,
     blocks: Blocks,
     workers: usize,
     gate: &G,
+    text: T,
     sink: &mut S,
 ) -> Result<(), RunFault>
     requires some_worker { 1 ≤ workers }
     requires start { IsAfter blocks.config blocks.program 0 blocks }
+    requires takes { (count : ℕ) → T.takes count }
+    requires ready { T.is_ready text blocks.config blocks.program 0 }
     requires dealt { IsDealtOut workers blocks.partition }
-    ensures ok { OnOk result (S.taken sink.new ≡ S.taken sink.old ++ trace blocks.config blocks.program) }
+    ensures ok { OnOk result (S.taken sink.new ≡ S.taken sink.old ++ run_text T.opening (T.lines text) T.closing blocks.config blocks.program) }
     ensures still { OnOk result (S.failures sink.new ≡ S.failures sink.old) }
-    ensures err { OnErr result (TakesPrefix (trace blocks.config blocks.program) (S.taken sink.old) (S.taken sink.new)) }
+    ensures err { OnErr result (TakesPrefix (run_text T.opening (T.lines text) T.closing blocks.config blocks.program) (S.taken sink.old) (S.taken sink.new)) }
     ensures counted { IfErr result (λ e. S.failures sink.new ≡ S.failures sink.old + sink_faults e) }
 {
-    write_by_workers::<Brand, R, G, S>(rt, alloc, blocks, workers, gate, sink).1
+    write_by_workers::<Brand, R, G, T, S>(rt, alloc, blocks, workers, gate, text, sink).1
 }
 
-/// Starts the workers to whom the units were dealt out, has them run a machine from its start, writes its trace to a sink, and gives the sink back. On every return path the threads are joined.
+/// Starts the workers to whom the units were dealt out, has them run a machine from its start, writes text of its run to a sink, and gives the sink back. On every return path the threads are joined.
 fn write_by_workers<
     's,
     J: ExpectedResults + Send,
     R: Threads + Wait + Sync,
     G: Gate + Sync,
+    T: RunText,
     S: Sink,
 >(
     rt: &R,
@@ -54,16 +58,19 @@ fn write_by_workers<
     blocks: Blocks,
     workers: usize,
     gate: &G,
+    text: T,
     sink: &'s mut S,
 ) -> (&'s mut S, Result<(), RunFault>)
     requires some_worker { 1 ≤ workers }
     requires dealt { IsDealtOut workers blocks.partition }
     requires expected { AreExpectedResults J.results J.program workers blocks }
     requires start { IsAfter blocks.config blocks.program 0 blocks }
+    requires takes { (count : ℕ) → T.takes count }
+    requires ready { T.is_ready text blocks.config blocks.program 0 }
     ensures same_reference { result.0.ghost_name ≡ sink.entry.ghost_name }
-    ensures ok { OnOk result.1 (S.taken result.0.now ≡ S.taken sink.entry.now ++ trace blocks.config blocks.program) }
+    ensures ok { OnOk result.1 (S.taken result.0.now ≡ S.taken sink.entry.now ++ run_text T.opening (T.lines text) T.closing blocks.config blocks.program) }
     ensures still { OnOk result.1 (S.failures result.0.now ≡ S.failures sink.entry.now) }
-    ensures err { OnErr result.1 (TakesPrefix (trace blocks.config blocks.program) (S.taken sink.entry.now) (S.taken result.0.now)) }
+    ensures err { OnErr result.1 (TakesPrefix (run_text T.opening (T.lines text) T.closing blocks.config blocks.program) (S.taken sink.entry.now) (S.taken result.0.now)) }
     ensures counted { IfErr result.1 (λ e. S.failures result.0.now ≡ S.failures sink.entry.now + sink_faults e) }
 {
     thread::scope(
@@ -73,39 +80,44 @@ fn write_by_workers<
             requires some_worker { 1 ≤ workers }
             requires expected { AreExpectedResults J.results J.program workers blocks }
             requires start { IsAfter blocks.config blocks.program 0 blocks }
+            requires takes { (count : ℕ) → T.takes count }
+            requires ready { T.is_ready text blocks.config blocks.program 0 }
             ensures same_reference { result.0.ghost_name ≡ sink.entry.ghost_name }
-            ensures ok { OnOk result.1 (S.taken result.0.now ≡ S.taken sink.entry.now ++ trace blocks.config blocks.program) }
+            ensures ok { OnOk result.1 (S.taken result.0.now ≡ S.taken sink.entry.now ++ run_text T.opening (T.lines text) T.closing blocks.config blocks.program) }
             ensures still { OnOk result.1 (S.failures result.0.now ≡ S.failures sink.entry.now) }
-            ensures err { OnErr result.1 (TakesPrefix (trace blocks.config blocks.program) (S.taken sink.entry.now) (S.taken result.0.now)) }
+            ensures err { OnErr result.1 (TakesPrefix (run_text T.opening (T.lines text) T.closing blocks.config blocks.program) (S.taken sink.entry.now) (S.taken result.0.now)) }
             ensures counted { IfErr result.1 (λ e. S.failures result.0.now ≡ S.failures sink.entry.now + sink_faults e) }
         {
             let started = WorkerPool::<J>::start(scope, rt, alloc, workers, gate);
-            let result = write_by_started(rt, alloc, blocks, started, sink);
+            let result = write_by_started(rt, alloc, blocks, started, text, sink);
             (sink, result)
         },
     )
 }
 
-/// Runs a machine from its start by the workers of a pool that was just started, writes its trace to a sink, and lets the workers end. Why a pool couldn't be started is the run's fault. After a fault the sink has taken a prefix of the trace.
-fn write_by_started<J: ExpectedResults, R: Threads + Wait, S: Sink>(
+/// Runs a machine from its start by the workers of a pool that was just started, writes text of its run to a sink, and lets the workers end. Why a pool couldn't be started is the run's fault. After a fault the sink has taken a prefix of the text.
+fn write_by_started<J: ExpectedResults, R: Threads + Wait, T: RunText, S: Sink>(
     rt: &R,
     alloc: Global,
     blocks: Blocks,
     started: Result<WorkerPool<J>, CrewFault>,
+    text: T,
     sink: &mut S,
 ) -> Result<(), RunFault>
     requires some_worker { ForOk started (λ pool. 1 ≤ pool) }
     requires expected { ForOk started (λ pool. AreExpectedResults J.results J.program pool blocks) }
     requires start { IsAfter blocks.config blocks.program 0 blocks }
-    ensures ok { OnOk result (S.taken sink.new ≡ S.taken sink.old ++ trace blocks.config blocks.program) }
+    requires takes { (count : ℕ) → T.takes count }
+    requires ready { T.is_ready text blocks.config blocks.program 0 }
+    ensures ok { OnOk result (S.taken sink.new ≡ S.taken sink.old ++ run_text T.opening (T.lines text) T.closing blocks.config blocks.program) }
     ensures still { OnOk result (S.failures sink.new ≡ S.failures sink.old) }
-    ensures err { OnErr result (TakesPrefix (trace blocks.config blocks.program) (S.taken sink.old) (S.taken sink.new)) }
+    ensures err { OnErr result (TakesPrefix (run_text T.opening (T.lines text) T.closing blocks.config blocks.program) (S.taken sink.old) (S.taken sink.new)) }
     ensures counted { IfErr result (λ e. S.failures sink.new ≡ S.failures sink.old + sink_faults e) }
     ensures refused { IfErr started (λ e. result ≡ Err (fault_of_crew e)) }
 {
     match started {
         Ok(pool) => {
-            let result = write_by_pool(rt, alloc, blocks, &pool, sink);
+            let result = write_by_pool(rt, alloc, blocks, &pool, text, sink);
             pool.stop(rt);
             result
         }
@@ -113,74 +125,88 @@ fn write_by_started<J: ExpectedResults, R: Threads + Wait, S: Sink>(
     }
 }
 
-/// Runs a machine from its start by the workers of a pool, and writes its trace to a sink. After a fault the sink has taken a prefix of it.
-fn write_by_pool<J: ExpectedResults, R: Wait, S: Sink>(
+/// Runs a machine from its start by the workers of a pool, and writes text of its run to a sink. After a fault the sink has taken a prefix of it.
+fn write_by_pool<J: ExpectedResults, R: Wait, T: RunText, S: Sink>(
     rt: &R,
     alloc: Global,
     blocks: Blocks,
     pool: &WorkerPool<J>,
+    text: T,
     sink: &mut S,
 ) -> Result<(), RunFault>
     requires some_worker { 1 ≤ pool.now }
     requires expected { AreExpectedResults J.results J.program pool.now blocks }
     requires start { IsAfter blocks.config blocks.program 0 blocks }
-    ensures ok { OnOk result (S.taken sink.new ≡ S.taken sink.old ++ trace blocks.config blocks.program) }
+    requires takes { (count : ℕ) → T.takes count }
+    requires ready { T.is_ready text blocks.config blocks.program 0 }
+    ensures ok { OnOk result (S.taken sink.new ≡ S.taken sink.old ++ run_text T.opening (T.lines text) T.closing blocks.config blocks.program) }
     ensures still { OnOk result (S.failures sink.new ≡ S.failures sink.old) }
-    ensures err { OnErr result (TakesPrefix (trace blocks.config blocks.program) (S.taken sink.old) (S.taken sink.new)) }
+    ensures err { OnErr result (TakesPrefix (run_text T.opening (T.lines text) T.closing blocks.config blocks.program) (S.taken sink.old) (S.taken sink.new)) }
     ensures counted { IfErr result (λ e. S.failures sink.new ≡ S.failures sink.old + sink_faults e) }
 {
     let mut buffer = TextBuffer::new(sink);
-    match put_trace_together(&mut buffer, rt, alloc, blocks, pool) {
+    match put_text_together(&mut buffer, rt, alloc, blocks, pool, text) {
         Ok(()) => Ok(buffer.finish()?),
         Err(fault) => Err(run_fault(fault)),
     }
 }
 
-/// Runs a machine from its start by workers, and writes its trace. It ends early where the sink or a worker fails.
-fn put_trace_together<J: ExpectedResults, R: Wait, S: Sink>(
+/// Runs a machine from its start by workers, and writes text of its run. It ends early where the sink or a worker fails.
+fn put_text_together<J: ExpectedResults, R: Wait, T: RunText, S: Sink>(
     buffer: &mut TextBuffer<'_, S>,
     rt: &R,
     alloc: Global,
     blocks: Blocks,
     pool: &WorkerPool<J>,
+    mut text: T,
 ) -> Result<(), CrewFault>
     requires some_worker { 1 ≤ pool.now }
     requires expected { AreExpectedResults J.results J.program pool.now blocks }
     requires start { IsAfter blocks.config blocks.program 0 blocks }
+    requires takes { (count : ℕ) → T.takes count }
+    requires ready { T.is_ready text blocks.config blocks.program 0 }
     requires sound { has_failed buffer.old ≡ false }
-    ensures ok { OnOk result (Writes S.taken S.failures (trace blocks.config blocks.program) buffer.old buffer.new) }
-    ensures err { OnErr result (WritesPrefix S.taken S.failures (trace blocks.config blocks.program) buffer.old buffer.new) }
+    ensures ok { OnOk result (Writes S.taken S.failures (run_text T.opening (T.lines text) T.closing blocks.config blocks.program) buffer.old buffer.new) }
+    ensures err { OnErr result (WritesPrefix S.taken S.failures (run_text T.opening (T.lines text) T.closing blocks.config blocks.program) buffer.old buffer.new) }
     ensures sound { OnErr result (has_failed buffer.new ≡ false) }
 {
-    put_first_line(buffer);
+    text.put_opening(buffer);
     if buffer.has_failed() {
         return Ok(());
     }
-    let blocks = put_cycles_together(buffer, rt, alloc, blocks, pool)?;
-    put_end(buffer, &blocks);
+    let blocks = put_cycles_together(buffer, rt, alloc, blocks, pool, &mut text)?;
+    if buffer.has_failed() {
+        return Ok(());
+    }
+    text.put_closing(buffer, &blocks);
     Ok(())
 }
 
-/// Runs a machine from its start to the end of its trace by workers, and writes all cycles. It ends early where the sink or a worker fails.
-fn put_cycles_together<J: ExpectedResults, R: Wait, S: Sink>(
+/// Runs a machine from its start to the end of its trace by workers, and writes the lines of all cycles. It ends early where the sink or a worker fails.
+fn put_cycles_together<J: ExpectedResults, R: Wait, T: RunText, S: Sink>(
     buffer: &mut TextBuffer<'_, S>,
     rt: &R,
     alloc: Global,
     mut blocks: Blocks,
     pool: &WorkerPool<J>,
+    text: &mut T,
 ) -> Result<Blocks, CrewFault>
     requires some_worker { 1 ≤ pool.now }
     requires expected { AreExpectedResults J.results J.program pool.now blocks }
     requires start { IsAfter blocks.config blocks.program 0 blocks }
+    requires takes { (count : ℕ) → T.takes count }
+    requires ready { T.is_ready text.old blocks.config blocks.program 0 }
     requires sound { has_failed buffer.old ≡ false }
-    ensures writes { OnOk result (Writes S.taken S.failures (all_cycles_text blocks.config blocks.program) buffer.old buffer.new) }
+    ensures writes { OnOk result (Writes S.taken S.failures (by_number (cycle_count blocks.config blocks.program) (T.lines text.old blocks.config blocks.program)) buffer.old buffer.new) }
     ensures end { IfOk result (λ b. has_failed buffer.new ≡ false → IsAfter blocks.config blocks.program (cycle_count blocks.config blocks.program) b) }
-    ensures err { OnErr result (WritesPrefix S.taken S.failures (all_cycles_text blocks.config blocks.program) buffer.old buffer.new) }
+    ensures ready { OnOk result (has_failed buffer.new ≡ false → T.is_ready text.new blocks.config blocks.program (cycle_count blocks.config blocks.program)) }
+    ensures err { OnErr result (WritesPrefix S.taken S.failures (by_number (cycle_count blocks.config blocks.program) (T.lines text.old blocks.config blocks.program)) buffer.old buffer.new) }
     ensures sound { OnErr result (has_failed buffer.new ≡ false) }
 {
-    for _ in 0..most_cycles(&blocks) {
+    for cycle in 0..most_cycles(&blocks) {
         blocks = pool.cycle(rt, alloc, blocks)?;
-        if put_and_judge(buffer, &blocks) {
+        text.put_lines(buffer, &blocks, cycle);
+        if is_over(buffer, &blocks) {
             return Ok(blocks);
         }
     }

@@ -1,5 +1,5 @@
 -- how many cycles a trace has
-use Rattle.std.proofs.Common.{ℕ, zero, suc, ◌≡◌, ◌+◌, ◌-◌, ◌≤◌, ◌<◌, ◌⊎◌, inl, inr, List, ◌++◌, Bool, true, false, ◌||◌, Some, None, refl, sym, ◌∙◌, ap, arith, add-one}
+use Rattle.std.proofs.Common.{ℕ, zero, suc, ◌≡◌, ◌+◌, ◌-◌, ◌≤◌, ◌<◌, ◌⊎◌, inl, inr, List, ◌++◌, Bool, true, false, ◌||◌, Some, None, refl, sym, ◌∙◌, ap, subst, arith, add-one}
 use Rattle.std.specs.List.{find, range_with_len, flat_map}
 use Rattle.std.specs.Option.{unwrap_or}
 use Rattle.std.proofs.lemmas.List.Concat.{flat_map-append}
@@ -10,8 +10,8 @@ use Rattle.ultra_model.specs.Phases.{after, cycle, reply_phase, memory_phase, re
 use Rattle.ultra_io.specs.declared.text_buffer.TextBuffer.{TextBuffer}
 use Rattle.ultra_io.specs.TextBuffer.{Writes, WritesPrefix}
 use Rattle.ultra_trace_alone.specs.BlocksAfter.{IsAfter}
-use Rattle.ultra_model.specs.Trace.{by_number, cycle_text, cycles_text, cycle_count, all_cycles_text, last_state, end_text}
-use Rattle.ultra_io.proofs.Writing.{either, writes_failed, writes_spent}
+use Rattle.ultra_model.specs.Trace.{by_number, cycle_count}
+use Rattle.ultra_io.proofs.Writing.{writes_failed}
 use Rattle.ultra_holders.proofs.Skipped.{range_parts}
 use Rattle.ultra_trace_text.proofs.Numbered.{writes_number}
 
@@ -60,12 +60,15 @@ module _ (c : Settings) (program : List Instr) (n : ℕ) where
   pub quiet_after : (b : BlocksState) → IsAfter c program n b → is_quiet (after c program n) ≡ is_quiet b.machine
   quiet_after b a = ap (λ m. is_quiet m) (sym a.state)
 
-  -- the lines of the last cycle, and those at the end
-  pub cycle_after : (b : BlocksState) → IsAfter c program n b → cycle_text b.config b.machine ≡ cycle_text c (after c program n)
-  cycle_after b a = cc
+  -- what holds of the settings and of the program, holds of those of the blocks, and the other way round
+  pub of_blocks : (P : Settings → List Instr → Type 0) (b : BlocksState) → IsAfter c program n b → P c program → P b.config b.program
+  of_blocks P b a p = rw (a.settings, a.instructions) p
 
-  pub end_after : (b : BlocksState) → IsAfter c program n b → end_text b.config b.machine ≡ end_text c (after c program n)
-  end_after b a = cc
+  pub of_settings : (P : Settings → List Instr → Type 0) (b : BlocksState) → IsAfter c program n b → P b.config b.program → P c program
+  of_settings P b a p = rw (a.settings, a.instructions) at p
+
+  pub own_after : (b : BlocksState) → IsAfter c program n b → IsAfter b.config b.program n b
+  own_after b a = record { settings = refl; instructions = refl; state = of_blocks (λ d p. b.machine ≡ after d p n) b a a.state }
 
 -- where the machine is busy after n cycles, from the first on
 abbrev pub IsBusy : Settings → List Instr → ℕ → Type 0
@@ -109,44 +112,43 @@ one_of a b h = grind arith
 pub not_second : (a b : Bool) → (a || b) ≡ false → b ≡ false
 not_second a b h = grind arith
 
-module _ (c : Settings) (program : List Instr) where
-  all_written : (n : ℕ) {S : Type 0} {taken : S → List ℕ} {failures : S → ℕ} {s t : TextBuffer S} → cycle_count c program ≡ n → Writes taken failures (cycles_text c program n) s t → Writes taken failures (all_cycles_text c program) s t
-  unfolding all_cycles_text
+module _ (c : Settings) (program : List Instr) (lines : ℕ → List ℕ) where
+  all_written : (n : ℕ) {S : Type 0} {taken : S → List ℕ} {failures : S → ℕ} {s t : TextBuffer S} → cycle_count c program ≡ n → Writes taken failures (by_number n lines) s t → Writes taken failures (by_number (cycle_count c program) lines) s t
   all_written n e w = rw e w
 
+  module _ (n : ℕ) where
+    -- the lines of a cycle more
+    pub cycle_written : (b : BlocksState) → IsAfter c program (n + 1) b → (now : Settings → List Instr → ℕ → List ℕ) → now c program n ≡ lines n → {S : Type 0} {taken : S → List ℕ} {failures : S → ℕ} {s t u : TextBuffer S} → Writes taken failures (by_number n lines) s t → Writes taken failures (now b.config b.program n) t u → Writes taken failures (by_number (n + 1) lines) s u
+    cycle_written b a now same {taken = taken} {failures = failures} {t = t} {u = u} v w =
+        writes_number lines n v (subst (λ text. Writes taken failures text t u) same (of_settings c program (n + 1) (λ d p. Writes taken failures (now d p n) t u) b a w))
+
+    -- after a fault the cycles that are missing don't matter
+    missing_cycles : {S : Type 0} {taken : S → List ℕ} {failures : S → ℕ} {s t : TextBuffer S} → IsBusy c program n → n < c.cycles → t.failed ≡ true → Writes taken failures (by_number (n + 1) lines) s t → Writes taken failures (by_number (cycle_count c program) lines) s t
+    missing_cycles h p f w =
+        let first = first_lines lines (n + 1) (cycle_count c program) (count_beyond c program n h p) in
+        rw first.1 (writes_failed first.0 f w)
+
+    -- the cycles so far are the first of the trace
+    pub first_written : {S : Type 0} {taken : S → List ℕ} {failures : S → ℕ} {s t : TextBuffer S} → IsBusy c program n → n < c.cycles → Writes taken failures (by_number n lines) s t → WritesPrefix taken failures (by_number (cycle_count c program) lines) s t
+    first_written h p w =
+        let beyond = count_beyond c program n h p in
+        let first = first_lines lines n (cycle_count c program) (omega (arith, beyond)) in
+        (by_number n lines, (first.0, sym first.1), w)
+
 module _ (c : Settings) (program : List Instr) (n : ℕ) where
-  -- the lines of a cycle more
-  pub cycle_written : (b : BlocksState) → IsAfter c program (n + 1) b → {S : Type 0} {taken : S → List ℕ} {failures : S → ℕ} {s t u : TextBuffer S} → Writes taken failures (cycles_text c program n) s t → Writes taken failures (cycle_text b.config b.machine) t u → Writes taken failures (cycles_text c program (n + 1)) s u
-  cycle_written b now v w = writes_number (λ k. cycle_text c (after c program (k + 1))) n v (rw (cycle_after c program (n + 1) b now) at w)
-
-  -- after a fault the cycles that are missing don't matter
-  missing_cycles : {S : Type 0} {taken : S → List ℕ} {failures : S → ℕ} {s t : TextBuffer S} → IsBusy c program n → n < c.cycles → t.failed ≡ true → Writes taken failures (cycles_text c program (n + 1)) s t → Writes taken failures (all_cycles_text c program) s t
-  unfolding all_cycles_text
-  missing_cycles h p f w =
-      let first = first_lines (λ k. cycle_text c (after c program (k + 1))) (n + 1) (cycle_count c program) (count_beyond c program n h p) in
-      rw first.1 (writes_failed first.0 f w)
-
-  -- the cycles so far are the first of the trace
-  pub first_written : {S : Type 0} {taken : S → List ℕ} {failures : S → ℕ} {s t : TextBuffer S} → IsBusy c program n → n < c.cycles → Writes taken failures (cycles_text c program n) s t → WritesPrefix taken failures (all_cycles_text c program) s t
-  unfolding all_cycles_text
-  first_written h p w =
-      let beyond = count_beyond c program n h p in
-      let first = first_lines (λ k. cycle_text c (after c program (k + 1))) n (cycle_count c program) (omega (arith, beyond)) in
-      (cycles_text c program n, (first.0, sym first.1), w)
-
   -- where the machine is quiet or the sink has failed, the cycle was the last
   module _ (b : BlocksState) (a : IsAfter c program (n + 1) b) (h : IsBusy c program n) (p : n < c.cycles) where
     counted : is_quiet b.machine ≡ true → cycle_count c program ≡ n + 1
     counted q = count_quiet c program n h p (quiet_after c program (n + 1) b a ∙ q)
 
-    pub last_written : {S : Type 0} {taken : S → List ℕ} {failures : S → ℕ} {s t : TextBuffer S} → (is_quiet b.machine || t.failed) ≡ true → Writes taken failures (cycles_text c program (n + 1)) s t → Writes taken failures (all_cycles_text c program) s t
-    last_written {t = t} over w = elim (one_of (is_quiet b.machine) t.failed over) [
-      | inl q ↦ all_written c program (n + 1) (counted q) w
-      | inr f ↦ missing_cycles h p f w
+    pub last_written : (lines : ℕ → List ℕ) {S : Type 0} {taken : S → List ℕ} {failures : S → ℕ} {s t : TextBuffer S} → (is_quiet b.machine || t.failed) ≡ true → Writes taken failures (by_number (n + 1) lines) s t → Writes taken failures (by_number (cycle_count c program) lines) s t
+    last_written lines {t = t} over w = elim (one_of (is_quiet b.machine) t.failed over) [
+      | inl q ↦ all_written c program lines (n + 1) (counted q) w
+      | inr f ↦ missing_cycles c program lines n h p f w
     ]
 
-    pub last_machine : (failed : Bool) → (is_quiet b.machine || failed) ≡ true → failed ≡ false → IsAfter c program (cycle_count c program) b
-    last_machine failed over f = grind (arith, counted)
+    pub last_count : (failed : Bool) → (is_quiet b.machine || failed) ≡ true → failed ≡ false → n + 1 ≡ cycle_count c program
+    last_count failed over f = grind (arith, counted)
 
     -- and else it goes on
     pub still_busy : (failed : Bool) → (is_quiet b.machine || failed) ≡ false → IsBusy c program (n + 1)
@@ -154,20 +156,8 @@ module _ (c : Settings) (program : List Instr) (n : ℕ) where
 
   -- where the settings allow no more, that was the last
   module _ (all : n ≡ c.cycles) (h : IsBusy c program n) where
-    limit : cycle_count c program ≡ n
-    limit = grind (arith, count_limit)
+    pub limit_count : n ≡ cycle_count c program
+    limit_count = grind (arith, count_limit)
 
-    pub limit_written : {S : Type 0} {taken : S → List ℕ} {failures : S → ℕ} {s t : TextBuffer S} → Writes taken failures (cycles_text c program n) s t → Writes taken failures (all_cycles_text c program) s t
-    limit_written w = all_written c program n limit w
-
-    pub limit_machine : (b : BlocksState) → IsAfter c program n b → IsAfter c program (cycle_count c program) b
-    limit_machine b a = grind (arith, limit)
-
-module _ (c : Settings) (program : List Instr) where
-  -- the lines at the end; after a fault it doesn't matter which
-  pub end_written : (b : BlocksState) {S : Type 0} {taken : S → List ℕ} {failures : S → ℕ} {s t : TextBuffer S} → (s.failed ≡ false → IsAfter c program (cycle_count c program) b) → Writes taken failures (end_text b.config b.machine) s t → Writes taken failures (end_text c (last_state c program)) s t
-  unfolding last_state
-  end_written b {s = s} h w = elim (either s.failed) [
-    | inl e ↦ writes_spent (end_text c (after c program (cycle_count c program))) e w
-    | inr e ↦ rw (end_after c program (cycle_count c program) b (h e)) at w
-  ]
+    pub limit_written : (lines : ℕ → List ℕ) {S : Type 0} {taken : S → List ℕ} {failures : S → ℕ} {s t : TextBuffer S} → Writes taken failures (by_number n lines) s t → Writes taken failures (by_number (cycle_count c program) lines) s t
+    limit_written lines w = all_written c program lines n (sym limit_count) w

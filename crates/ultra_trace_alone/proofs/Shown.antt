@@ -1,5 +1,5 @@
 -- the lines of a trace that begin with `got ` are those of its deliveries
-use Rattle.std.proofs.Common.{◌≡◌, ◌==◌, ℕ, zero, suc, ◌+◌, ◌-◌, ◌*◌, ◌/◌, ◌%◌, ◌<◌, Bool, true, false, not, ◌&&◌, nat_eq, nat_lt, List, [], ◌∷◌, ◌++◌, Option, Some, None, codes, decimal, map, filter, cond, refl, sym, ◌∙◌, ap, arith, add-one, append_assoc, append-nil, slice_index, inl, inr}
+use Rattle.std.proofs.Common.{◌≡◌, ◌==◌, ℕ, zero, suc, ◌+◌, ◌-◌, ◌*◌, ◌/◌, ◌%◌, ◌<◌, Bool, true, false, not, nat_eq, nat_lt, List, [], ◌∷◌, ◌++◌, codes, decimal, map, filter, refl, sym, ◌∙◌, ap, arith, append_assoc, append-nil, slice_index, inl, inr}
 use Rattle.std.specs.Fmt.{digit_glyph, digits, digits_onto}
 use Rattle.std.specs.List.{flat_map, list_all, onto_first, range_with_len, slice_split, starts_with}
 use Rattle.std.proofs.lemmas.Bool.{and_from, and_parts, cases_Bool, cond-false, cond-true, ne_eqb, lt-ltb}
@@ -25,9 +25,9 @@ use Rattle.ultra_model.specs.declared.Stop.{Stop}
 use Rattle.ultra_model.specs.Machine.{Settings, Machine, size, is_quiet}
 use Rattle.ultra_model.specs.Phases.{after}
 use Rattle.ultra_model.specs.Text.{newline, op_text, request_text, mark_text, entry_text, reply_text, message_text, give_text, record_text, fault_text, activity_text, comma_separated}
-use Rattle.ultra_model.specs.Trace.{got_line, act_line, fault_line, place_line, held, unit_name, stage_name, by_number, by_stage, inp_line, pni_lines, req_lines, wait_lines, inp_lines, out_lines, rep_lines, events_text, state_text, cycle_text, ending_text, unless_zero, cell_line, cell_lines, register_text, registers_text, pe_line, pe_lines, end_text, cycle_count, cycles_text, all_cycles_text, last_state, trace}
+use Rattle.ultra_model.specs.Trace.{got_line, act_line, fault_line, place_line, held, unit_name, stage_name, by_number, by_stage, inp_line, pni_lines, req_lines, wait_lines, inp_lines, out_lines, rep_lines, state_text, cycle_text, ending_text, unless_zero, cell_line, cell_lines, register_text, registers_text, pe_line, pe_lines, end_text, cycle_count, cycles_text, all_cycles_text, last_state, trace}
 use Rattle.ultra_trace_text.proofs.Numbered.{by_number_more}
-use Rattle.ultra_serial_law.specs.Replies.{Delivery, deliveries_in, deliveries}
+use Rattle.ultra_serial_law.specs.Replies.{deliveries_in, deliveries}
 use Rattle.ultra_trace_alone.specs.Headline.{got_lines_in, delivery_line}
 
 -- ---- texts within a line

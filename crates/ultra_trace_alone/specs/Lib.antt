@@ -2,3 +2,5 @@ pub mod Faults
 pub mod Dealt
 pub mod BlocksAfter
 pub mod Headline
+pub mod RunText
+pub mod Part

@@ -1,12 +1,16 @@
-//! A run in the caller's thread, and its trace; and what a run by several workers shares with it.
+//! A run in the caller's thread, and its trace, whole or in part; and what a run by several workers shares with it.
 #![tactic(auto)]
 
 mod alone;
 mod fault;
+mod part;
 mod running;
 mod start;
+mod text;
 
-pub use alone::{most_cycles, put_and_judge, put_first_line};
+pub use alone::{is_over, most_cycles};
 pub use fault::RunFault;
-pub use running::run_alone;
+pub use part::{CycleLines, TracePart, WholeTrace};
+pub use running::{run_alone, run_part_alone, write_run};
 pub use start::new_blocks;
+pub use text::RunText;

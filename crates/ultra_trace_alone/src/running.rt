@@ -1,4 +1,4 @@
-//! The trace of a run in the caller's thread.
+//! A run in the caller's thread: the trace, a part of it, or another text of the run.
 
 ghost use Rattle.std.specs.Prelude.{◌≡◌, ◌≢◌, ◌+◌, List, ℕ, ◌++◌, OnOk, OnErr, IfErr};
 ghost use Rattle.ultra_msg.specs.Bytes.{TakesPrefix};
@@ -6,11 +6,15 @@ ghost use Rattle.ultra_model.specs.Trace.{trace};
 ghost use Rattle.ultra_trace_alone.specs.declared.fault.RunFault.TheVariants.{NoMemory, NoThread};
 ghost use Rattle.ultra_trace_alone.specs.Faults.{sink_faults};
 ghost use Rattle.ultra_trace_alone.specs.Headline.{Headline};
+ghost use Rattle.ultra_trace_alone.specs.Part.{part_of};
+ghost use Rattle.ultra_trace_alone.specs.RunText.{run_text};
 
-use crate::alone::write_trace;
+use crate::alone::write_text;
 use crate::fault::RunFault;
-use crate::start::new_blocks;
+use crate::part::{TracePart, WholeTrace};
+use crate::text::RunText;
 use std::alloc::Global;
+use ultra_block::Blocks;
 use ultra_isa::Program;
 use ultra_model::Config;
 use ultra_msg::Sink;
@@ -34,7 +38,51 @@ pub fn run_alone<S: Sink>(
     ensures alone { IfErr result (λ e. e ≢ NoThread) }
     ensures memory_first { IfErr result (λ e. e ≡ NoMemory → S.taken sink.new ≡ S.taken sink.old) }
 {
-    let mut blocks = new_blocks(alloc, config, program, 1)?;
-    write_trace(&mut blocks, sink)?;
+    // for the prover: the settings are in their ranges
+    let _valid = config.initial();
+    write_run(alloc, config, program, WholeTrace, sink)
+}
+
+/// Runs a program on a machine of these settings in the caller's thread, and writes a part of the trace to the sink; after a fault the sink has taken a prefix of it. Cycles that aren't in the part take no time for text.
+///
+/// The faults are those of `run_alone`.
+pub fn run_part_alone<S: Sink>(
+    alloc: Global,
+    config: &Config,
+    program: &Program,
+    part: TracePart,
+    sink: &mut S,
+) -> Result<(), RunFault>
+    ensures ok { OnOk result (S.taken sink.new ≡ S.taken sink.old ++ part_of part config.now program.now) }
+    ensures still { OnOk result (S.failures sink.new ≡ S.failures sink.old) }
+    ensures err { OnErr result (TakesPrefix (part_of part config.now program.now) (S.taken sink.old) (S.taken sink.new)) }
+    ensures counted { IfErr result (λ e. S.failures sink.new ≡ S.failures sink.old + sink_faults e) }
+    ensures alone { IfErr result (λ e. e ≢ NoThread) }
+    ensures memory_first { IfErr result (λ e. e ≡ NoMemory → S.taken sink.new ≡ S.taken sink.old) }
+{
+    write_run(alloc, config, program, part, sink)
+}
+
+/// Runs a program on a machine of these settings, in one block, in the caller's thread, and writes text of the run to the sink; after a fault the sink has taken a prefix of it.
+///
+/// The faults are those of `run_alone`.
+pub fn write_run<T: RunText, S: Sink>(
+    alloc: Global,
+    config: &Config,
+    program: &Program,
+    mut text: T,
+    sink: &mut S,
+) -> Result<(), RunFault>
+    requires takes { T.takes 1 }
+    requires ready { T.is_ready text config.now program.now 0 }
+    ensures ok { OnOk result (S.taken sink.new ≡ S.taken sink.old ++ run_text T.opening (T.lines text) T.closing config.now program.now) }
+    ensures still { OnOk result (S.failures sink.new ≡ S.failures sink.old) }
+    ensures err { OnErr result (TakesPrefix (run_text T.opening (T.lines text) T.closing config.now program.now) (S.taken sink.old) (S.taken sink.new)) }
+    ensures counted { IfErr result (λ e. S.failures sink.new ≡ S.failures sink.old + sink_faults e) }
+    ensures alone { IfErr result (λ e. e ≢ NoThread) }
+    ensures memory_first { IfErr result (λ e. e ≡ NoMemory → S.taken sink.new ≡ S.taken sink.old) }
+{
+    let mut blocks = Blocks::in_one_block(alloc, config, program)?;
+    write_text(&mut blocks, &mut text, sink)?;
     Ok(())
 }

@@ -26,10 +26,6 @@ pub fn new_blocks(
 {
     // for the prover: the settings are in their ranges
     let _valid = config.initial();
-    // one worker has all units, which are in one block from the start
-    if workers == 1 {
-        return Blocks::in_one_block(alloc, config, program);
-    }
     let partition = dealt_out(alloc, config, workers)?;
     match Blocks::new(alloc, config, program, partition.as_slice()) {
         Ok(blocks) => Ok(blocks),

@@ -4,7 +4,7 @@ ghost use Rattle.std.specs.Prelude.{◌≡◌, ◌+◌, ◌<◌, ◌++◌, OnOk,
 ghost use Rattle.ultra_model.specs.Text.{newline};
 ghost use Rattle.ultra_msg.specs.Bytes.{TakesPrefix};
 ghost use Rattle.ultra_io.specs.TextBuffer.{Writes};
-ghost use Rattle.ultra_model.specs.Trace.{cycle_text};
+ghost use Rattle.ultra_model.specs.Trace.{cycle_line, cycle_text, events_text};
 
 use crate::events::put_events;
 use crate::state::put_state;
@@ -33,9 +33,18 @@ pub fn put_cycle<S: Sink>(buffer: &mut TextBuffer<'_, S>, blocks: &Blocks)
     requires { 0 < blocks.now.machine.cycles }
     ensures { Writes S.taken S.failures (cycle_text blocks.now.config blocks.now.machine) buffer.old buffer.new }
 {
+    put_cycle_events(buffer, blocks);
+    put_state(buffer, blocks);
+}
+
+/// Writes the first lines of the last cycle in a buffer: its number, and what happened.
+#[inline(always)]
+pub fn put_cycle_events<S: Sink>(buffer: &mut TextBuffer<'_, S>, blocks: &Blocks)
+    requires { 0 < blocks.now.machine.cycles }
+    ensures { Writes S.taken S.failures (cycle_line blocks.now.machine ++ events_text blocks.now.machine.events blocks.now.machine.stops) buffer.old buffer.new }
+{
     put_number(buffer, blocks.done() - 1);
     put_events(buffer, blocks);
-    put_state(buffer, blocks);
 }
 
 /// Writes the first line of a cycle, as `cycle 0`.

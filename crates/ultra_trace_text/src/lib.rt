@@ -9,5 +9,5 @@ mod places;
 mod state;
 mod texts;
 
-pub use cycle::{put_cycle, write_cycle};
+pub use cycle::{put_cycle, put_cycle_events, write_cycle};
 pub use ending::{put_cell, put_end, put_pe};

@@ -1,11 +1,15 @@
-use Rattle.std.proofs.Common.{arith, sym, ◌+◌}
+use Rattle.std.proofs.Common.{arith, refl, sym, subst, ◌≡◌, ◌+◌, ◌∙◌}
 use Rattle.ultra_io.proofs.Writing.{writes_nothing}
-use Rattle.ultra_trace_alone.proofs.Count.{next_after, done_after, cycle_written, busy_none, last_written, last_machine, still_busy, limit_written, limit_machine}
+use Rattle.ultra_trace_alone.specs.BlocksAfter.{IsAfter}
+use Rattle.ultra_trace_alone.proofs.Count.{next_after, own_after, of_settings, done_after, cycle_written, busy_none, last_written, last_count, still_busy, limit_written, limit_count}
 use Rattle.ultra_trace_alone.proofs.alone.put_cycles.Goals as goal
 
-pub loop-init : goal.loop-init
-loop-init g c = record {
-  state = c.requires;
+pub loop-cycle-init : goal.loop-cycle-init
+loop-cycle-init g c = record {
+  state = c.requires.start;
+  takes = c.requires.takes;
+  ready = c.requires.ready;
+  same = λ k. refl;
   writes = writes_nothing c.args.buffer.now;
   busy = busy_none c.args.blocks.now.config c.args.blocks.now.program;
 }
@@ -13,50 +17,77 @@ loop-init g c = record {
 pub cycle-requires : goal.cycle-requires
 cycle-requires g c =
     let first = c.args.blocks.now in
-    rw (done_after first.config first.program c.loop.counter c.loop.blocks c.loop.invariant.state) (omega arith)
+    rw (done_after first.config first.program c.loop-cycle.cycle c.loop-cycle.blocks c.loop-cycle.invariant.state) (omega arith)
 
-pub put_and_judge-requires : goal.put_and_judge-requires
-put_and_judge-requires g c =
+pub put_lines-requires-clause-made : goal.put_lines-requires-clause-made
+put_lines-requires-clause-made g c =
     let first = c.args.blocks.now in
-    let n = c.loop.counter in
-    let now = next_after first.config first.program n c.loop.blocks c.cycle.new.self c.loop.invariant.state c.cycle.ensures in
-    rw (done_after first.config first.program (n + 1) c.cycle.new.self now) (omega arith)
+    let n = c.loop-cycle.cycle in
+    let now = next_after first.config first.program n c.loop-cycle.blocks c.cycle.new.self c.loop-cycle.invariant.state c.cycle.ensures in
+    own_after first.config first.program (n + 1) c.cycle.new.self now
 
-pub returns-then-put_and_judge-clause-writes : goal.returns-then-put_and_judge-clause-writes
-returns-then-put_and_judge-clause-writes g c =
+pub returns-then-is_over-clause-writes : goal.returns-then-is_over-clause-writes
+returns-then-is_over-clause-writes g c =
     let first = c.args.blocks.now in
-    let n = c.loop.counter in
-    let made = c.cycle.ensures in
-    let now = next_after first.config first.program n c.loop.blocks c.cycle.new.self c.loop.invariant.state made in
-    let written = cycle_written first.config first.program n c.cycle.new.self now c.loop.invariant.writes c.put_and_judge.ensures.writes in
-    last_written first.config first.program n c.cycle.new.self now c.loop.invariant.busy (omega arith) (sym c.if-put_and_judge.ensures.over) written
+    let n = c.loop-cycle.cycle in
+    let inv = c.loop-cycle.invariant in
+    let lines = g.T.RunText.lines c.args.text.now first.config first.program in
+    let now = next_after first.config first.program n c.loop-cycle.blocks c.cycle.new.self inv.state c.cycle.ensures in
+    let written = cycle_written first.config first.program lines n c.cycle.new.self now (g.T.RunText.lines c.loop-cycle.text) (inv.same n) inv.writes c.put_lines.ensures.writes in
+    last_written first.config first.program n c.cycle.new.self now inv.busy (omega arith) lines (sym c.if-is_over.ensures) written
 
-pub returns-then-put_and_judge-clause-end : goal.returns-then-put_and_judge-clause-end
-returns-then-put_and_judge-clause-end g c =
+pub returns-then-is_over-clause-end : goal.returns-then-is_over-clause-end
+returns-then-is_over-clause-end g c failed =
     let first = c.args.blocks.now in
-    let n = c.loop.counter in
-    let made = c.cycle.ensures in
-    let now = next_after first.config first.program n c.loop.blocks c.cycle.new.self c.loop.invariant.state made in
-    last_machine first.config first.program n c.cycle.new.self now c.loop.invariant.busy (omega arith) c.put_and_judge.new.buffer.failed (sym c.if-put_and_judge.ensures.over)
+    let n = c.loop-cycle.cycle in
+    let inv = c.loop-cycle.invariant in
+    let now = next_after first.config first.program n c.loop-cycle.blocks c.cycle.new.self inv.state c.cycle.ensures in
+    let count = last_count first.config first.program n c.cycle.new.self now inv.busy (omega arith) c.put_lines.new.buffer.failed (sym c.if-is_over.ensures) failed in
+    subst (λ k. IsAfter first.config first.program k c.cycle.new.self) count now
 
-pub loop-preserved : goal.loop-preserved
-loop-preserved g c =
+pub returns-then-is_over-clause-ready : goal.returns-then-is_over-clause-ready
+returns-then-is_over-clause-ready g c failed =
     let first = c.args.blocks.now in
-    let n = c.loop.counter in
-    let made = c.cycle.ensures in
-    let now = next_after first.config first.program n c.loop.blocks c.cycle.new.self c.loop.invariant.state made in
+    let n = c.loop-cycle.cycle in
+    let inv = c.loop-cycle.invariant in
+    let now = next_after first.config first.program n c.loop-cycle.blocks c.cycle.new.self inv.state c.cycle.ensures in
+    let count = last_count first.config first.program n c.cycle.new.self now inv.busy (omega arith) c.put_lines.new.buffer.failed (sym c.if-is_over.ensures) failed in
+    subst (λ k. g.T.RunText.is_ready c.put_lines.new.self first.config first.program k) count
+    (of_settings first.config first.program (n + 1) (λ s p. g.T.RunText.is_ready c.put_lines.new.self s p (n + 1)) c.cycle.new.self now c.put_lines.ensures.ready)
+
+pub loop-cycle-preserved : goal.loop-cycle-preserved
+loop-cycle-preserved g c =
+    let first = c.args.blocks.now in
+    let n = c.loop-cycle.cycle in
+    let inv = c.loop-cycle.invariant in
+    let b = c.cycle.new.self in
+    let old = c.loop-cycle.text in
+    let new = c.put_lines.new.self in
+    let lines = g.T.RunText.lines c.args.text.now first.config first.program in
+    let now = next_after first.config first.program n c.loop-cycle.blocks b inv.state c.cycle.ensures in
     record {
       state = now;
-      writes = cycle_written first.config first.program n c.cycle.new.self now c.loop.invariant.writes c.put_and_judge.ensures.writes;
-      busy = still_busy first.config first.program n c.cycle.new.self now c.loop.invariant.busy (omega arith) c.put_and_judge.new.buffer.failed (sym c.if-put_and_judge.ensures.over);
+      takes = rw c.cycle.ensures inv.takes;
+      ready = of_settings first.config first.program (n + 1) (λ s p. g.T.RunText.is_ready new s p (n + 1)) b now c.put_lines.ensures.ready;
+      same = λ k. of_settings first.config first.program (n + 1) (λ s p. g.T.RunText.lines new s p k ≡ g.T.RunText.lines old s p k) b now (c.put_lines.ensures.same k) ∙ inv.same k;
+      writes = cycle_written first.config first.program lines n b now (g.T.RunText.lines old) (inv.same n) inv.writes c.put_lines.ensures.writes;
+      busy = still_busy first.config first.program n b now inv.busy (omega arith) c.put_lines.new.buffer.failed (sym c.if-is_over.ensures);
     }
 
 pub returns-clause-writes : goal.returns-clause-writes
 returns-clause-writes g c =
     let first = c.args.blocks.now in
-    limit_written first.config first.program c.loop.counter (omega arith) c.loop.invariant.busy c.loop.invariant.writes
+    let inv = c.loop-cycle.invariant in
+    limit_written first.config first.program c.loop-cycle.cycle (omega arith) inv.busy (g.T.RunText.lines c.args.text.now first.config first.program) inv.writes
 
 pub returns-clause-end : goal.returns-clause-end
 returns-clause-end g c failed =
     let first = c.args.blocks.now in
-    limit_machine first.config first.program c.loop.counter (omega arith) c.loop.invariant.busy c.loop.blocks c.loop.invariant.state
+    let inv = c.loop-cycle.invariant in
+    subst (λ k. IsAfter first.config first.program k c.loop-cycle.blocks) (limit_count first.config first.program c.loop-cycle.cycle (omega arith) inv.busy) inv.state
+
+pub returns-clause-ready : goal.returns-clause-ready
+returns-clause-ready g c failed =
+    let first = c.args.blocks.now in
+    let inv = c.loop-cycle.invariant in
+    subst (λ k. g.T.RunText.is_ready c.loop-cycle.text first.config first.program k) (limit_count first.config first.program c.loop-cycle.cycle (omega arith) inv.busy) inv.ready

@@ -1,12 +1,20 @@
+use Rattle.std.proofs.Common.{ℕ, ◌≡◌}
 use Rattle.ultra_io.specs.TextBuffer.{Writes}
 use Rattle.ultra_trace_alone.specs.BlocksAfter.{IsAfter}
-use Rattle.ultra_model.specs.Trace.{cycles_text}
+use Rattle.ultra_model.specs.Trace.{by_number}
 use Rattle.ultra_trace_alone.proofs.Count.{IsBusy}
 use Rattle.ultra_trace_alone.proofs.alone.put_cycles.Given as goal
 
-abbrev pub invariant-loop : goal.invariant-loop
-invariant-loop g l = record {
-  state : IsAfter l.initial.blocks.config l.initial.blocks.program l.counter l.blocks;
-  writes : Writes g.S.Sink.taken g.S.Sink.failures (cycles_text l.initial.blocks.config l.initial.blocks.program l.counter) l.initial.buffer l.buffer;
-  busy : IsBusy l.initial.blocks.config l.initial.blocks.program l.counter;
-}
+abbrev pub invariant-loop-cycle : goal.invariant-loop-cycle
+invariant-loop-cycle g l =
+    let c = l.initial.blocks.config in
+    let program = l.initial.blocks.program in
+    let lines = g.T.RunText.lines l.initial.text c program in
+    record {
+      state : IsAfter c program l.cycle l.blocks;
+      takes : g.T.RunText.takes l.blocks.count;
+      ready : g.T.RunText.is_ready l.text c program l.cycle;
+      same : (k : ℕ) → g.T.RunText.lines l.text c program k ≡ lines k;
+      writes : Writes g.S.Sink.taken g.S.Sink.failures (by_number l.cycle lines) l.initial.buffer l.buffer;
+      busy : IsBusy c program l.cycle;
+    }

@@ -1,20 +1,17 @@
-use Rattle.std.proofs.lemmas.Result.{IfOk-from_err, MatchResult-from_err}
-use Rattle.ultra_msg.proofs.Prefixes.{takes_none}
-use Rattle.ultra_trace_alone.proofs.Headlines.{headline_of}
+use Rattle.ultra_model.specs.Trace.{all_cycles_text, trace}
+use Rattle.ultra_trace_alone.specs.RunText.{run_text}
+use Rattle.ultra_trace_alone.proofs.Headlines.{headline_on_ok}
 use Rattle.ultra_trace_alone.proofs.running.run_alone.Goals as goal
 
-pub returns-in_err-blocks-clause-headline : goal.returns-in_err-blocks-clause-headline
-returns-in_err-blocks-clause-headline g c = IfOk-from_err c.from_residual.result _ c.from_residual.ensures.0
-
-pub returns-in_err-blocks-clause-ok : goal.returns-in_err-blocks-clause-ok
-returns-in_err-blocks-clause-ok g c = IfOk-from_err c.from_residual.result _ c.from_residual.ensures.0
-
-pub returns-in_err-blocks-clause-still : goal.returns-in_err-blocks-clause-still
-returns-in_err-blocks-clause-still g c = IfOk-from_err c.from_residual.result _ c.from_residual.ensures.0
-
-pub returns-in_err-blocks-clause-err : goal.returns-in_err-blocks-clause-err
-returns-in_err-blocks-clause-err g c = MatchResult-from_err c.from_residual.result _ _ c.from_residual.ensures.0 (λ e. takes_none _ _)
-
 pub returns-clause-headline : goal.returns-clause-headline
+unfolding run_text trace all_cycles_text
 returns-clause-headline g c =
-    headline_of c.args.config.now c.args.program.now c.in_ok-blocks.blocks (g.S.Sink.taken c.args.sink.now) (g.S.Sink.taken c.write_trace.new.sink) c.in_ok-blocks.ensures.range c.in_ok-blocks.ensures.start c.in_ok-write_trace.ensures.ok
+    headline_on_ok c.args.config.now c.args.program.now c.write_run.result (g.S.Sink.taken c.args.sink.now) (g.S.Sink.taken c.write_run.new.sink) c.initial-valid.ensures.valid.range c.write_run.ensures.ok
+
+pub returns-clause-ok : goal.returns-clause-ok
+unfolding run_text trace all_cycles_text
+returns-clause-ok g c = c.write_run.ensures.ok
+
+pub returns-clause-err : goal.returns-clause-err
+unfolding run_text trace all_cycles_text
+returns-clause-err g c = c.write_run.ensures.err

@@ -4,6 +4,4 @@ use Rattle.ultra_trace_text.proofs.cycle.put_cycle.Goals as goal
 
 pub returns : goal.returns
 unfolding cycle_text
-returns g c =
-    let number = rw c.done.ensures at c.put_number.ensures in
-    number then c.put_events.ensures then c.put_state.ensures
+returns g c = c.put_cycle_events.ensures then c.put_state.ensures
