@@ -1,5 +1,5 @@
--- the deliveries of a cycle: they show the latencies of the definition, and close their cells
-use Rattle.std.proofs.Common.{ℕ, zero, suc, List, [], ◌∷◌, ◌++◌, ◌≡◌, ◌≢◌, ◌+◌, ◌-◌, ◌<◌, ◌≤◌, ◌^◌, true, length, refl, sym, ap, ◌∙◌, get_or-set_other, length-append, arith}
+-- the deliveries of a cycle: they name open requests, and close their cells
+use Rattle.std.proofs.Common.{ℕ, zero, suc, List, [], ◌∷◌, ◌++◌, ◌≡◌, ◌≢◌, ◌+◌, ◌-◌, ◌<◌, ◌≤◌, ◌^◌, true, length, refl, sym, ap, ◌∙◌, subst, length-set, get_or-set_other, length-append, arith}
 use Rattle.std.proofs.Math.Pow.{pow_mono}
 use Rattle.std.proofs.lemmas.Bool.Decides.{nat_tests}
 use Rattle.std.specs.Prelude.{Option, Some, None, IfSome, map, slice_set, ◌==◌}
@@ -20,11 +20,11 @@ use Rattle.ultra_model.proofs.Each.{each-append, each-present, each-places, each
 use Rattle.ultra_model.proofs.ReplyBalance.{delivered_open}
 use Rattle.ultra_model.proofs.Sound.{after_is_sound}
 use Rattle.ultra_latency.specs.declared.open.OpenRequest.{OpenRequest}
-use Rattle.ultra_latency.specs.Latency.{issued_in, latencies_among, latencies_of}
-use Rattle.ultra_latency.specs.Open.{row, rows_with, cycle_of, since, without_request, open_request, open_rows, rows_after, latencies_along}
-use Rattle.ultra_latency.proofs.Rows.{IsNeutral, latencies_append}
+use Rattle.ultra_latency.specs.Latency.{latencies_among, latencies_of}
+use Rattle.ultra_latency.specs.Open.{row, rows_with, request_for, without_request, open_requests, open_rows, rows_after, latencies_along, IsOpenIn, NameOpen}
+use Rattle.ultra_latency.proofs.Rows.{IsNeutral}
 use Rattle.ultra_latency.proofs.Few.{present_short}
-use Rattle.ultra_latency.proofs.OpenCells.{open_cycle, open_left}
+use Rattle.ultra_latency.proofs.OpenCells.{open_found, open_left}
 use Rattle.ultra_latency.proofs.CycleEvents.{before, brought, deliveries, others, issues, sent, requested, events_are, others_neutral}
 
 abbrev pub IsNoDelivery : Event → Type 0
@@ -45,13 +45,6 @@ some_issue e (Some r) = tt
 
 -- ---- latencies of several events
 module _ (n : ℕ) where
-  none_along : (rows : List (List OpenRequest)) (es : List Event) → AllByRecursion IsNoDelivery es → latencies_along n rows es ≡ []
-  none_along rows [] all = refl
-  none_along rows (Delivered r ∷ es) all = absurd all.0
-  none_along rows (Served k r v now ∷ es) all = none_along rows es all.1
-  none_along rows (Combined s x a p q f ∷ es) all = none_along rows es all.1
-  none_along rows (Issued r k ∷ es) all = none_along (rows_with n rows (Issued r k)) es all.1
-
   module _ (c : Settings) (program : List Instr) where
     none_among : (es : List Event) → AllByRecursion IsNoDelivery es → latencies_among c program n es ≡ []
     none_among [] all = refl
@@ -74,57 +67,81 @@ module _ (n : ℕ) where
     among_short (Combined s x a p q f ∷ es) = let rest = among_short es in omega (arith, rest)
     among_short (Issued r k ∷ es) = let rest = among_short es in omega (arith, rest)
 
--- ---- the deliveries to n processing elements from a on, each of a request whose cycle its row knows
+-- ---- events that name open requests
+module _ (c : Settings) (program : List Instr) (cycle : ℕ) where
+  pub named_append : (rows : List (List OpenRequest)) (xs ys : List Event) → NameOpen c program cycle rows xs → NameOpen c program cycle (rows_after cycle rows xs) ys → NameOpen c program cycle rows (xs ++ ys)
+  named_append rows [] ys first second = second
+  named_append rows (e ∷ es) ys first second = (first.0, named_append (rows_with cycle rows e) es ys first.1 second)
+
+  -- their latencies are those of the definition
+  pub latencies_named : (rows : List (List OpenRequest)) (es : List Event) → NameOpen c program cycle rows es → latencies_along cycle rows es ≡ latencies_among c program cycle es
+  latencies_named rows [] all = refl
+  latencies_named rows (Delivered r ∷ es) all =
+      let found = all.0.1 in
+      let rest = latencies_named (rows_with cycle rows (Delivered r)) es all.1 in
+      rw (found, rest) refl
+  latencies_named rows (Served k r v now ∷ es) all = latencies_named rows es all.1
+  latencies_named rows (Combined s x a p q f ∷ es) all = latencies_named rows es all.1
+  latencies_named rows (Issued r k ∷ es) all = latencies_named (rows_with cycle rows (Issued r k)) es all.1
+
+-- ---- the deliveries to n processing elements from a on, each of a request that its row has
 module _ (cycle : ℕ) (f : ℕ → Option ReplyMessage) (bound : ℕ) (own : (p : ℕ) → p < bound → IfSome (f p) (λ r. r.pe ≡ p)) where
   abbrev given : ℕ → ℕ → List Event
   given a n = present (map (λ p. delivery (f p)) (range_with_len a n))
 
   module _ (c : Settings) (program : List Instr) where
     abbrev Knows : List (List OpenRequest) → ℕ → Option ReplyMessage → Type 0
-    Knows rows p o = IfSome o (λ r. cycle_of r.cell (row rows p) ≡ Some (issued_in c program p r.cell cycle))
+    Knows rows p o = IfSome o (λ r. IsOpenIn c program cycle rows p r.cell)
 
     -- a row that another event has changed
     knows_still : (rows : List (List OpenRequest)) (a p : ℕ) (os : List OpenRequest) → p ≢ a → (o : Option ReplyMessage) → Knows rows p o → Knows (slice_set rows a os) p o
     knows_still rows a p os other None h = tt
-    knows_still rows a p os other (Some r) h = ap (cycle_of r.cell) (get_or-set_other rows a p os [] other) ∙ h
+    knows_still rows a p os other (Some r) h =
+        let long = length-set rows a os in
+        (omega (arith, h.0, long), ap (request_for r.cell) (get_or-set_other rows a p os [] other) ∙ h.1)
 
     -- the first of them, before the others
-    along_first : (rows : List (List OpenRequest)) (a : ℕ) (os : List (Option Event)) (o : Option ReplyMessage) → IfSome o (λ r. r.pe ≡ a) → Knows rows a o
-        → latencies_along cycle rows (present os) ≡ latencies_among c program cycle (present os)
-        → ((r : ReplyMessage) → o ≡ Some r → latencies_along cycle (rows_with cycle rows (Delivered r)) (present os) ≡ latencies_among c program cycle (present os))
-        → latencies_along cycle rows (present (delivery o ∷ os)) ≡ latencies_among c program cycle (present (delivery o ∷ os))
-    along_first rows a os None mine known none some = none
-    along_first rows a os (Some r) mine known none some =
-        let here : since cycle (cycle_of r.cell (row rows r.pe)) ≡ (cycle - issued_in c program r.pe r.cell cycle) ∷ [] = rw mine (ap (since cycle) known) in
-        rw (here, some r refl) refl
+    named_first : (rows : List (List OpenRequest)) (a : ℕ) (os : List (Option Event)) (o : Option ReplyMessage) → IfSome o (λ r. r.pe ≡ a) → Knows rows a o
+        → NameOpen c program cycle rows (present os)
+        → ((r : ReplyMessage) → o ≡ Some r → NameOpen c program cycle (rows_with cycle rows (Delivered r)) (present os))
+        → NameOpen c program cycle rows (present (delivery o ∷ os))
+    named_first rows a os None mine known none some = none
+    named_first rows a os (Some r) mine known none some = (subst (λ p. IsOpenIn c program cycle rows p r.cell) (sym mine) known, some r refl)
 
-    given_along : (n a : ℕ) (rows : List (List OpenRequest)) → a + n ≤ bound → ((p : ℕ) → a ≤ p → p < a + n → Knows rows p (f p)) → latencies_along cycle rows (given a n) ≡ latencies_among c program cycle (given a n)
-    given_along zero a rows within knows = refl
-    given_along (suc n) a rows within knows =
-        along_first rows a (map (λ p. delivery (f p)) (range_with_len (a + 1) n)) (f a) (own a (omega arith)) (knows a (omega arith) (omega arith))
-        (given_along n (a + 1) rows (omega arith) (λ p from to. knows p (omega arith) (omega arith)))
+    given_named : (n a : ℕ) (rows : List (List OpenRequest)) → a + n ≤ bound → ((p : ℕ) → a ≤ p → p < a + n → Knows rows p (f p)) → NameOpen c program cycle rows (given a n)
+    given_named zero a rows within knows = tt
+    given_named (suc n) a rows within knows =
+        named_first rows a (map (λ p. delivery (f p)) (range_with_len (a + 1) n)) (f a) (own a (omega arith)) (knows a (omega arith) (omega arith))
+        (given_named n (a + 1) rows (omega arith) (λ p from to. knows p (omega arith) (omega arith)))
         (λ r is.
         let mine : r.pe ≡ a = rw is at (own a (omega arith)) in
-        given_along n (a + 1) (rows_with cycle rows (Delivered r)) (omega arith) (λ p from to.
+        given_named n (a + 1) (rows_with cycle rows (Delivered r)) (omega arith) (λ p from to.
         let other : p ≢ r.pe = omega (arith, mine, from) in
         knows_still rows r.pe p (without_request r.cell (row rows r.pe)) other (f p) (knows p (omega arith) (omega arith))))
 
 -- ---- of a cycle
 module _ (c : Settings) (range : AreInRange c) (program : List Instr) (n : ℕ) where
   -- a count that isn't 0 is of a cell that is open
-  counted_open : (a : ℕ) (os : List OpenCell) → 1 ≤ count (λ (o : OpenCell). o.cell == a) os → is_open a os ≡ true
+  pub counted_open : (a : ℕ) (os : List OpenCell) → 1 ≤ count (λ (o : OpenCell). o.cell == a) os → is_open a os ≡ true
   counted_open a [] some = absurd (omega (arith, some))
   counted_open a (o ∷ os) some = let rest = counted_open a os in grind (arith, nat_tests)
 
-  pub row_is : (p : ℕ) → p < size c → row (open_rows c program n) p ≡ map (open_request c program n p) (element_at (before c program n) p).interface.opened
+  pub row_is : (p : ℕ) → p < size c → row (open_rows c program n) p ≡ open_requests c program n p (element_at (before c program n) p).interface.opened
   unfolding open_rows
-  row_is p h = places_at (size c) (λ p. map (open_request c program n p) (element_at (before c program n) p).interface.opened) p [] h
+  row_is p h = places_at (size c) (λ p. open_requests c program n p (element_at (before c program n) p).interface.opened) p [] h
 
-  knows_from : (p : ℕ) → p < size c → (o : Option ReplyMessage) → IfSome o (λ (r : ReplyMessage). (r.pe ≡ p) × (1 ≤ count (λ (o : OpenCell). o.cell == r.cell) (element_at (before c program n) p).interface.opened)) → IfSome o (λ r. cycle_of r.cell (row (open_rows c program n) p) ≡ Some (issued_in c program p r.cell n))
+  pub length_rows : length (open_rows c program n) ≡ size c
+  unfolding open_rows
+  length_rows = length-places (size c) _
+
+  knows_from : (p : ℕ) → p < size c → (o : Option ReplyMessage) → IfSome o (λ (r : ReplyMessage). (r.pe ≡ p) × (1 ≤ count (λ (o : OpenCell). o.cell == r.cell) (element_at (before c program n) p).interface.opened)) → IfSome o (λ r. IsOpenIn c program n (open_rows c program n) p r.cell)
   knows_from p h None there = tt
-  knows_from p h (Some r) there = ap (cycle_of r.cell) (row_is p h) ∙ open_cycle c program n p r.cell (element_at (before c program n) p).interface.opened (counted_open r.cell (element_at (before c program n) p).interface.opened there.1)
+  knows_from p h (Some r) there = (
+    omega (arith, h, length_rows),
+    ap (request_for r.cell) (row_is p h) ∙ open_found c program n p r.cell (element_at (before c program n) p).interface.opened (counted_open r.cell (element_at (before c program n) p).interface.opened there.1),
+  )
 
-  knows : (p : ℕ) → p < size c → IfSome (brought c program n p) (λ r. cycle_of r.cell (row (open_rows c program n) p) ≡ Some (issued_in c program p r.cell n))
+  pub knows : (p : ℕ) → p < size c → IfSome (brought c program n p) (λ r. IsOpenIn c program n (open_rows c program n) p r.cell)
   knows p h = let sound = after_is_sound c range program n in knows_from p h (brought c program n p) (delivered_open c range (before c program n) sound.routes sound.balance p h)
 
   own_from : (p : ℕ) (o : Option ReplyMessage) → IfSome o (λ (r : ReplyMessage). (r.pe ≡ p) × (1 ≤ count (λ (o : OpenCell). o.cell == r.cell) (element_at (before c program n) p).interface.opened)) → IfSome o (λ (r : ReplyMessage). r.pe ≡ p)
@@ -141,17 +158,9 @@ module _ (c : Settings) (range : AreInRange c) (program : List Instr) (n : ℕ) 
       (each-weaker IsNeutral IsNoDelivery (others c program n) neutral_is (others_neutral c program n))
       (each-present IsNoDelivery _ (each-places (λ o. IfSome o IsNoDelivery) (size c) (λ p. issue_event (element_at (requested c program n) p) (sent c program n p)) (λ p h. some_issue (element_at (requested c program n) p) (sent c program n p))))
 
-  delivered_along : latencies_along n (open_rows c program n) (deliveries c program n) ≡ latencies_among c program n (deliveries c program n)
+  pub delivered_named : NameOpen c program n (open_rows c program n) (deliveries c program n)
   unfolding places
-  delivered_along = given_along n (brought c program n) (size c) brought_own c program (size c) 0 (open_rows c program n) (omega arith) (λ p from to. knows p (omega arith))
-
-  pub latency_law : latencies_along n (open_rows c program n) (after c program (n + 1)).events ≡ latencies_of c program n
-  latency_law =
-      let more = latencies_append n (open_rows c program n) (deliveries c program n) (others c program n ++ issues c program n) in
-      let none = none_along n (rows_after n (open_rows c program n) (deliveries c program n)) (others c program n ++ issues c program n) rest in
-      let no = none_among n c program (others c program n ++ issues c program n) rest in
-      let all = among_append n c program (deliveries c program n) (others c program n ++ issues c program n) in
-      rw (events_are c program n, more, none, delivered_along, all, no) refl
+  delivered_named = given_named n (brought c program n) (size c) brought_own c program (size c) 0 (open_rows c program n) (omega arith) (λ p from to. knows p (omega arith))
 
   -- at most one a processing element
   pub few_law : length (latencies_of c program n) ≤ 64
@@ -172,6 +181,6 @@ left_out None os = os
 left_out (Some r) os = without_request r.cell os
 
 module _ (c : Settings) (program : List Instr) (n p : ℕ) where
-  pub left_open : (e : Element) (o : Option ReplyMessage) → left_out o (map (open_request c program n p) e.interface.opened) ≡ map (open_request c program n p) (deliver e o).interface.opened
+  pub left_open : (e : Element) (o : Option ReplyMessage) → left_out o (open_requests c program n p e.interface.opened) ≡ open_requests c program n p (deliver e o).interface.opened
   left_open e None = refl
   left_open e (Some r) = open_left c program n p r.cell e.interface.opened

@@ -6,6 +6,8 @@ pub mod OwnRows
 pub mod CycleEvents
 pub mod Few
 pub mod Deliveries
+pub mod OwnIssues
 pub mod Issues
 pub mod Places
+pub mod Named
 pub mod OpenLaw

@@ -9,9 +9,10 @@ use Rattle.ultra_model.specs.Ranges.{AreInRange}
 use Rattle.ultra_latency.specs.declared.open.OpenRequest.{OpenRequest}
 use Rattle.ultra_model.proofs.AtPlaces.{element-start}
 use Rattle.ultra_model.proofs.Each.{places_at, length-places}
-use Rattle.ultra_latency.specs.Open.{open_request, open_rows, rows_after, OpenLaw}
-use Rattle.ultra_latency.proofs.Deliveries.{latency_law, few_law}
-use Rattle.ultra_latency.proofs.Places.{places_law, made_row, length_made, length_rows, rows_are}
+use Rattle.ultra_latency.specs.Open.{open_requests, open_rows, rows_after, OpenLaw}
+use Rattle.ultra_latency.proofs.Deliveries.{few_law, latencies_named, length_rows}
+use Rattle.ultra_latency.proofs.Places.{places_law, made_row, length_made, rows_are}
+use Rattle.ultra_latency.proofs.Named.{named_law}
 
 -- two lists with the same rows
 same_rows : (xs ys : List (List OpenRequest)) → length xs ≡ length ys → ((k : ℕ) → k < length xs → slice_index_or xs k [] ≡ slice_index_or ys k []) → xs ≡ ys
@@ -26,10 +27,11 @@ pub open_law : OpenLaw
 open_law c range program n = record {
   rows =
       rows_are c range program n
-      ∙ same_rows _ (open_rows c program (n + 1)) (length_made c range program n ∙ sym (length_rows c range program n (n + 1)))
+      ∙ same_rows _ (open_rows c program (n + 1)) (length_made c range program n ∙ sym (length_rows c range program (n + 1)))
       (λ k h. made_row c range program n k (omega (arith, h, length_made c range program n)));
   places = places_law c range program n;
-  latencies = latency_law c range program n;
+  named = named_law c range program n;
+  latencies = latencies_named c program n (open_rows c program n) (after c program (n + 1)).events (named_law c range program n);
   few = few_law c range program n;
 }
 
@@ -40,7 +42,7 @@ fresh_rows c program =
     same_rows _ (places (size c) (λ p. []))
     (length-places (size c) _ ∙ sym (length-places (size c) _))
     (λ k h.
-    let small : k < size c = omega (arith, h, length-places (size c) (λ p. map (open_request c program 0 p) (element_at (start c) p).interface.opened)) in
-    places_at (size c) (λ p. map (open_request c program 0 p) (element_at (start c) p).interface.opened) k [] small
-    ∙ ap (λ (e : Element). map (open_request c program 0 k) e.interface.opened) (element-start c k small)
+    let small : k < size c = omega (arith, h, length-places (size c) (λ p. open_requests c program 0 p (element_at (start c) p).interface.opened)) in
+    places_at (size c) (λ p. open_requests c program 0 p (element_at (start c) p).interface.opened) k [] small
+    ∙ ap (λ (e : Element). open_requests c program 0 k e.interface.opened) (element-start c k small)
     ∙ sym (places_at (size c) (λ p. []) k [] small))

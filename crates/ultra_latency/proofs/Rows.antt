@@ -5,7 +5,7 @@ use Rattle.std.specs.List.{AllByRecursion}
 use Rattle.ultra_msg.specs.declared.Event.{Event}
 use Rattle.ultra_msg.specs.declared.Event.TheVariants.{Delivered, Served, Combined, Issued}
 use Rattle.ultra_latency.specs.declared.open.OpenRequest.{OpenRequest}
-use Rattle.ultra_latency.specs.Open.{without_request, row, rows_with, latency_at, HasPlace, rows_after, latencies_along, HavePlaces}
+use Rattle.ultra_latency.specs.Open.{issued_request, without_request, row, rows_with, latency_at, HasPlace, rows_after, latencies_along, HavePlaces}
 
 -- neither a delivery nor an issue
 abbrev pub IsNeutral : Event → Type 0
@@ -33,7 +33,7 @@ module _ (cycle : ℕ) where
   length_with rows (Delivered r) = length-set rows r.pe (without_request r.cell (row rows r.pe))
   length_with rows (Served k r v now) = refl
   length_with rows (Combined s x a p q f) = refl
-  length_with rows (Issued r n) = length-set rows r.pe (row rows r.pe ++ record { cell = r.cell; cycle = cycle } ∷ [])
+  length_with rows (Issued r n) = length-set rows r.pe (row rows r.pe ++ issued_request cycle r n ∷ [])
 
   pub length_after : (rows : List (List OpenRequest)) (es : List Event) → length (rows_after cycle rows es) ≡ length rows
   length_after rows [] = refl

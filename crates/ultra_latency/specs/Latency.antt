@@ -1,35 +1,36 @@
 -- how many cycles after their issues replies are delivered
-use Rattle.std.specs.Prelude.{ℕ, zero, suc, ◌+◌, ◌-◌, List, [], ◌∷◌, Bool, true, false, ◌&&◌, ◌==◌}
-use Rattle.std.specs.List.{list_any, flat_map, range_with_len}
+use Rattle.std.specs.Prelude.{ℕ, ◌+◌, ◌-◌, List, [], ◌∷◌, true, false}
+use Rattle.std.specs.List.{flat_map, range_with_len}
+use Rattle.ultra_msg.specs.declared.Op.TheVariants.{Load}
 use Rattle.ultra_msg.specs.declared.Event.{Event}
 use Rattle.ultra_msg.specs.declared.Event.TheVariants.{Delivered, Served, Combined, Issued}
 use Rattle.ultra_isa.specs.declared.Instr.{Instr}
 use Rattle.ultra_model.specs.Machine.{Settings}
 use Rattle.ultra_model.specs.Phases.{after}
+use Rattle.ultra_serial_law.specs.declared.records.LoggedIssue.{LoggedIssue}
+use Rattle.ultra_serial_law.specs.Log.{is_issue_for}
+use Rattle.ultra_serial_law.specs.SerialList.{history}
 
--- an issue of processing element p for cell a
-abbrev pub is_issue_to : ℕ → ℕ → Event → Bool
-is_issue_to p a (Delivered r) = false
-is_issue_to p a (Served k r v now) = false
-is_issue_to p a (Combined s x b old new first) = false
-is_issue_to p a (Issued r n) = (r.pe == p) && (r.cell == a)
+-- the latest issue of processing element p for cell a, or else i
+abbrev pub latest_among : ℕ → ℕ → List LoggedIssue → LoggedIssue → LoggedIssue
+latest_among p a [] i = i
+latest_among p a (j ∷ js) i =
+    latest_among p a js (elim (is_issue_for p a j) [ true ↦ j | false ↦ i ])
+
+abbrev pub no_issue : LoggedIssue
+no_issue = record { pe = 0; number = 0; cell = 0; op = Load; cycle = 0 }
 
 module _ (c : Settings) (program : List Instr) where
-  -- the last of the first n cycles in which processing element p issued a request for cell a
-  unfoldable pub issued_in : ℕ → ℕ → ℕ → ℕ
-  issued_in p a zero = 0
-  issued_in p a (suc n) =
-      elim (list_any (is_issue_to p a) (after c program (suc n)).events) [
-        | true ↦ n
-        | false ↦ issued_in p a n
-      ]
+  -- the latest issue of processing element p for cell a in the first n cycles
+  unfoldable pub latest_issue : ℕ → ℕ → ℕ → LoggedIssue
+  latest_issue p a n = latest_among p a (history c program n).log.issues no_issue
 
   -- of the deliveries among events of cycle n: a delivery answers the latest issue of its
   -- processing element for its cell
   abbrev pub latencies_among : ℕ → List Event → List ℕ
   latencies_among n [] = []
   latencies_among n (Delivered r ∷ es) =
-      (n - issued_in r.pe r.cell n) ∷ latencies_among n es
+      (n - (latest_issue r.pe r.cell n).cycle) ∷ latencies_among n es
   latencies_among n (Served k r v now ∷ es) = latencies_among n es
   latencies_among n (Combined s x a old new first ∷ es) = latencies_among n es
   latencies_among n (Issued r k ∷ es) = latencies_among n es

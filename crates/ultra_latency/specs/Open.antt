@@ -1,5 +1,6 @@
 -- the open requests, each with the cycle of its issue, as events change them
 use Rattle.std.specs.Prelude.{◌≡◌, ℕ, ◌+◌, ◌-◌, ◌<◌, ◌≤◌, List, [], ◌∷◌, ◌++◌, map, true, false, ◌==◌, length, Option, Some, None, slice_set, slice_index_or}
+use Rattle.ultra_msg.specs.declared.Request.{Request}
 use Rattle.ultra_msg.specs.declared.Event.{Event}
 use Rattle.ultra_msg.specs.declared.Event.TheVariants.{Delivered, Served, Combined, Issued}
 use Rattle.ultra_pni.specs.declared.OpenCell.{OpenCell}
@@ -10,12 +11,12 @@ use Rattle.ultra_model.specs.Phases.{after}
 use Rattle.ultra_model.specs.Places.{places}
 use Rattle.ultra_model.specs.Ranges.{AreInRange}
 use Rattle.ultra_latency.specs.declared.open.OpenRequest.{OpenRequest}
-use Rattle.ultra_latency.specs.Latency.{issued_in, latencies_of}
+use Rattle.ultra_latency.specs.Latency.{latest_issue, latencies_of}
 
--- of one processing element: the cycle of the first request for a cell, and the requests without it
-abbrev pub cycle_of : ℕ → List OpenRequest → Option ℕ
-cycle_of a [] = None
-cycle_of a (o ∷ os) = elim (o.cell == a) [ true ↦ Some o.cycle | false ↦ cycle_of a os ]
+-- of one processing element: the first request for a cell, and the requests without it
+abbrev pub request_for : ℕ → List OpenRequest → Option OpenRequest
+request_for a [] = None
+request_for a (o ∷ os) = elim (o.cell == a) [ true ↦ Some o | false ↦ request_for a os ]
 
 abbrev pub without_request : ℕ → List OpenRequest → List OpenRequest
 without_request a [] = []
@@ -25,23 +26,30 @@ without_request a (o ∷ os) = elim (o.cell == a) [ true ↦ os | false ↦ o �
 abbrev pub row : List (List OpenRequest) → ℕ → List OpenRequest
 row rows p = slice_index_or rows p []
 
-abbrev pub since : ℕ → Option ℕ → List ℕ
-since cycle None = []
-since cycle (Some n) = (cycle - n) ∷ []
+-- what an issue of a cycle makes
+abbrev pub issued_request : ℕ → Request → ℕ → OpenRequest
+issued_request cycle r n = record { number = n; cell = r.cell; op = r.op; cycle = cycle }
 
--- the rows after an event of a cycle, and the latency of a delivery
+-- the rows after an event of a cycle, and the request that a delivery answers, with its latency
 abbrev pub rows_with : ℕ → List (List OpenRequest) → Event → List (List OpenRequest)
 rows_with cycle rows (Delivered r) = slice_set rows r.pe (without_request r.cell (row rows r.pe))
 rows_with cycle rows (Served k r v now) = rows
 rows_with cycle rows (Combined s x a old new first) = rows
 rows_with cycle rows (Issued r n) =
-    slice_set rows r.pe (row rows r.pe ++ record { cell = r.cell; cycle = cycle } ∷ [])
+    slice_set rows r.pe (row rows r.pe ++ issued_request cycle r n ∷ [])
+
+abbrev pub answered_at : List (List OpenRequest) → Event → Option OpenRequest
+answered_at rows (Delivered r) = request_for r.cell (row rows r.pe)
+answered_at rows (Served k r v now) = None
+answered_at rows (Combined s x a old new first) = None
+answered_at rows (Issued r n) = None
+
+abbrev pub since : ℕ → Option OpenRequest → List ℕ
+since cycle None = []
+since cycle (Some o) = (cycle - o.cycle) ∷ []
 
 abbrev pub latency_at : ℕ → List (List OpenRequest) → Event → List ℕ
-latency_at cycle rows (Delivered r) = since cycle (cycle_of r.cell (row rows r.pe))
-latency_at cycle rows (Served k r v now) = []
-latency_at cycle rows (Combined s x a old new first) = []
-latency_at cycle rows (Issued r n) = []
+latency_at cycle rows e = since cycle (answered_at rows e)
 
 -- each event is of a processing element that has a row, and an issue finds a place there
 abbrev pub HasPlace : List (List OpenRequest) → Event → Type 0
@@ -65,22 +73,45 @@ HavePlaces cycle rows [] = Unit {0}
 HavePlaces cycle rows (e ∷ es) = HasPlace rows e × HavePlaces cycle (rows_with cycle rows e) es
 
 -- ---- the rows between two cycles: the open cells of each processing element, in the order of
--- their issues, each with the latest cycle in which it was issued
+-- their issues, each with its latest issue
 module _ (c : Settings) (program : List Instr) (n : ℕ) where
-  abbrev pub open_request : ℕ → OpenCell → OpenRequest
-  open_request p o = record { cell = o.cell; cycle = issued_in c program p o.cell n }
+  abbrev pub open_request : ℕ → ℕ → OpenRequest
+  open_request p a =
+      let i = latest_issue c program p a n in
+      record { number = i.number; cell = a; op = i.op; cycle = i.cycle }
+
+  abbrev pub open_requests : ℕ → List OpenCell → List OpenRequest
+  open_requests p os = map (λ (o : OpenCell). open_request p o.cell) os
 
   unfoldable pub open_rows : List (List OpenRequest)
   open_rows =
       places (size c)
-      (λ p. map (open_request p) (element_at (after c program n) p).interface.opened)
+      (λ p. open_requests p (element_at (after c program n) p).interface.opened)
+
+  -- the row of a processing element has a request for a cell, which is the latest issue for it
+  abbrev pub IsOpenIn : List (List OpenRequest) → ℕ → ℕ → Type 0
+  IsOpenIn rows p a =
+      (p < length rows) × (request_for a (row rows p) ≡ Some (open_request p a))
+
+  -- so have the rows each request that is answered, served or combined in events of the next cycle
+  abbrev pub NamesOpen : List (List OpenRequest) → Event → Type 0
+  NamesOpen rows (Delivered r) = IsOpenIn rows r.pe r.cell
+  NamesOpen rows (Served k r v now) = IsOpenIn rows r.pe r.cell
+  NamesOpen rows (Combined s x a old new first) = IsOpenIn rows old a × IsOpenIn rows new a
+  NamesOpen rows (Issued r k) = Unit {0}
+
+  abbrev pub NameOpen : List (List OpenRequest) → List Event → Type 0
+  NameOpen rows [] = Unit {0}
+  NameOpen rows (e ∷ es) = NamesOpen rows e × NameOpen (rows_with n rows e) es
 
 -- the law of open requests: the events of a cycle make the next rows of these, they find their
--- places, and their latencies by the rows are those of the cycle, at most one a processing element
+-- places and name open requests, and their latencies by the rows are those of the cycle, at most one
+-- a processing element
 pub record IsOpenLaw (c : Settings) (program : List Instr) (n : ℕ) : Type 0 where
   pub rows : rows_after n (open_rows c program n) (after c program (n + 1)).events
       ≡ open_rows c program (n + 1)
   pub places : HavePlaces n (open_rows c program n) (after c program (n + 1)).events
+  pub named : NameOpen c program n (open_rows c program n) (after c program (n + 1)).events
   pub latencies : latencies_along n (open_rows c program n) (after c program (n + 1)).events
       ≡ latencies_of c program n
   pub few : length (latencies_of c program n) ≤ 64

@@ -1,9 +1,9 @@
-//! The open requests of all processing elements, each with the cycle of its issue.
+//! The open requests of all processing elements, each as it was issued.
 
 ghost use Rattle.std.specs.Prelude.{◌≡◌, ℕ, ◌+◌, ◌^◌, ◌<◌, ◌≤◌, ◌++◌, ◌∷◌, [], List, length, IfOk, IfSome, option_to_list, ◌==◌};
 ghost use Rattle.std.specs.List.{position};
 ghost use Rattle.ultra_isa.specs.declared.Instr.{Instr};
-ghost use Rattle.ultra_latency.specs.Open.{cycle_of, without_request, rows_after, latency_at, latencies_along, rows_with, open_rows, HasPlace, HavePlaces};
+ghost use Rattle.ultra_latency.specs.Open.{answered_at, latencies_along, open_rows, request_for, row, rows_after, rows_with, since, without_request, HasPlace, HavePlaces};
 ghost use Rattle.ultra_latency.specs.Summary.{AreSummedUp, AreSmall};
 
 use crate::summary::Latencies;
@@ -11,15 +11,19 @@ use arrayvec::ArrayVec;
 use std::alloc::{AllocError, Global};
 use std::marker::Model;
 use ultra_model::Config;
-use ultra_msg::{Cell, Event, take_out};
+use ultra_msg::{Cell, Event, Op, Pe, take_out};
 use ultra_pni::MOST_OPEN;
 
-/// An open request: its cell, and the cycle of its issue.
+/// An open request, as its processing element issued it.
 #[derive(Clone, Copy, Default, Drop)]
 pub struct OpenRequest {
+    /// Its number among the issues of its processing element, from 0.
+    pub number: u32,
     /// The cell.
     pub cell: Cell,
-    /// The cycle.
+    /// The operation.
+    pub op: Op,
+    /// The cycle of the issue.
     pub cycle: u32,
 }
 
@@ -56,20 +60,28 @@ impl OpenRow {
     }
 
     /// A request is issued.
-    fn put(&mut self, cell: Cell, cycle: u32)
+    fn put(&mut self, request: OpenRequest)
         requires { length self.old < MOST_OPEN }
-        ensures { self.new ≡ self.old ++ record { cell = cell; cycle = cycle } ∷ [] }
+        ensures { self.new ≡ self.old ++ request ∷ [] }
     {
-        self.open.push(OpenRequest { cell, cycle });
+        self.open.push(request);
     }
 
-    /// A request for the cell is answered. Gives the cycle of its issue, or `None` where there is none.
-    fn take(&mut self, cell: Cell) -> Option<u32>
-        ensures cycle { result ≡ cycle_of cell self.old }
+    /// The first request for the cell, or `None` where there is none.
+    fn request(&self, cell: Cell) -> Option<OpenRequest>
+        ensures { result ≡ request_for cell self.now }
+    {
+        let place = place_of(self.open.as_slice(), cell)?;
+        Some(self.open.as_slice()[place])
+    }
+
+    /// The first request for the cell is answered. Gives it, or `None` where there is none.
+    fn take(&mut self, cell: Cell) -> Option<OpenRequest>
+        ensures request { result ≡ request_for cell self.old }
         ensures others { self.new ≡ without_request cell self.old }
     {
         let place = place_of(self.open.as_slice(), cell)?;
-        Some(take_out(&mut self.open, place).cycle)
+        Some(take_out(&mut self.open, place))
     }
 }
 
@@ -92,6 +104,22 @@ impl OpenTable {
         Ok(OpenTable { rows })
     }
 
+    /// The open requests of a processing element, in the order of their issues.
+    pub fn requests(&self, pe: Pe) -> &[OpenRequest]
+        requires { pe < length self.now.rows.items }
+        ensures { result.now ≡ row self.now.rows.items pe }
+    {
+        self.rows[pe as usize].open.as_slice()
+    }
+
+    /// The open request of a processing element for a cell, or `None` where there is none.
+    pub fn request(&self, pe: Pe, cell: Cell) -> Option<OpenRequest>
+        requires { pe < length self.now.rows.items }
+        ensures { result ≡ request_for cell (row self.now.rows.items pe) }
+    {
+        self.rows[pe as usize].request(cell)
+    }
+
     /// The events of a cycle happened. The latencies of its deliveries come to those that are kept.
     pub fn note_events(&mut self, events: &[Event], cycle: u32, latencies: &mut Latencies)
         requires places { HavePlaces cycle self.old.rows.items events.now }
@@ -103,28 +131,39 @@ impl OpenTable {
         ensures small { AreSmall latencies.new }
     {
         for event in events {
-            let latency = self.note(event, cycle);
+            let answered = self.note(event, cycle);
+            let latency = latency_of(answered, cycle);
             latencies.add(latency);
         }
     }
 
-    /// An event of a cycle happened. Gives the latency of a delivery.
-    fn note(&mut self, event: &Event, cycle: u32) -> Option<u32>
+    /// An event of a cycle happened. Gives the request that a delivery answers.
+    pub fn note(&mut self, event: &Event, cycle: u32) -> Option<OpenRequest>
         requires { HasPlace self.old.rows.items event.now }
         ensures rows { self.new.rows.items ≡ rows_with cycle self.old.rows.items event.now }
-        ensures latency { option_to_list result ≡ latency_at cycle self.old.rows.items event.now }
-        ensures small { IfSome result (λ l. l ≤ cycle) }
+        ensures answered { result ≡ answered_at self.old.rows.items event.now }
     {
         match *event {
-            Event::Delivered(reply) => {
-                let issued = self.rows[reply.pe as usize].take(reply.cell)?;
-                Some(cycle.saturating_sub(issued))
-            }
-            Event::Issued { request, .. } => {
-                self.rows[request.pe as usize].put(request.cell, cycle);
+            Event::Delivered(reply) => self.rows[reply.pe as usize].take(reply.cell),
+            Event::Issued { request, number } => {
+                self.rows[request.pe as usize].put(OpenRequest {
+                    number,
+                    cell: request.cell,
+                    op: request.op,
+                    cycle,
+                });
                 None
             }
             Event::Served { .. } | Event::Combined { .. } => None,
         }
     }
+}
+
+/// The latency of a request that is answered in a cycle, where there is one.
+fn latency_of(answered: Option<OpenRequest>, cycle: u32) -> Option<u32>
+    ensures latency { option_to_list result ≡ since cycle answered }
+    ensures small { IfSome result (λ l. l ≤ cycle) }
+{
+    let request = answered?;
+    Some(cycle.saturating_sub(request.cycle))
 }

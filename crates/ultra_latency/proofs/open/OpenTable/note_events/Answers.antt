@@ -1,7 +1,7 @@
 use Rattle.std.proofs.Common.{ℕ, List, [], ◌≡◌, ◌+◌, ◌++◌, ◌∙◌, refl, sym, ap, drop, subst, append_assoc, arith, rules}
 use Rattle.std.specs.Prelude.{option_to_list}
 use Rattle.ultra_latency.specs.declared.open.OpenRequest.{OpenRequest}
-use Rattle.ultra_latency.specs.Open.{rows_after, latencies_along, HavePlaces}
+use Rattle.ultra_latency.specs.Open.{rows_after, latencies_along, since, HavePlaces}
 use Rattle.ultra_latency.specs.Summary.{AreSummedUp}
 use Rattle.ultra_latency.proofs.Rows.{next_rows, next_places, next_shown}
 use Rattle.ultra_latency.proofs.Summaries.{same_summed_up}
@@ -16,8 +16,8 @@ loop-event-init c = record {
   few = omega arith;
 }
 
-pub note-latency-requires : goal.note-latency-requires
-note-latency-requires c = (next_places c.args.cycle c.loop-event.self.rows.items c.args.events.now c.loop-event.event-index _ c.loop-event-test.true c.loop-event.invariant.places).0
+pub note-answered-requires : goal.note-answered-requires
+note-answered-requires c = (next_places c.args.cycle c.loop-event.self.rows.items c.args.events.now c.loop-event.event-index _ c.loop-event-test.true c.loop-event.invariant.places).0
 
 pub loop-event-preserved : goal.loop-event-preserved
 loop-event-preserved c =
@@ -27,12 +27,12 @@ loop-event-preserved c =
     let es = c.args.events.now in
     let at = c.loop-event.event-index in
     let here = c.loop-event-test.true in
-    let same = sym c.note-latency.ensures.rows in
+    let same = sym c.note-answered.ensures.rows in
     let rest = drop (at + 1) es in
     let one = c.add.ensures in
-    let o = option_to_list c.note-latency.result in
+    let o = option_to_list c.latency_of-latency.result in
     let done = are.summary.0 in
-    let behind = next_shown cycle rows es at _ here _ c.note-latency.ensures.latency _ c.note-latency.ensures.rows in
+    let behind = next_shown cycle rows es at _ here _ (c.latency_of-latency.ensures.latency ∙ ap (since cycle) c.note-answered.ensures.answered) _ c.note-answered.ensures.rows in
     record {
       rows = are.rows ∙ next_rows cycle rows es at _ here ∙ ap (λ (r : List (List OpenRequest)). rows_after cycle r rest) same;
       places = subst (λ (r : List (List OpenRequest)). HavePlaces cycle r rest) same (next_places cycle rows es at _ here are.places).1;
