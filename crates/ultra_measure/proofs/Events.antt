@@ -1,5 +1,5 @@
 -- counts of the first events of a list, and of one more
-use Rattle.std.proofs.Common.{ℕ, zero, suc, ◌≡◌, ◌+◌, ◌<◌, ◌≤◌, List, [], ◌∷◌, Bool, true, false, length, take, get_or, ap, ◌∙◌, arith}
+use Rattle.std.proofs.Common.{ℕ, zero, suc, ◌≡◌, ◌+◌, ◌^◌, ◌<◌, ◌≤◌, List, [], ◌∷◌, Bool, true, false, length, take, get_or, ap, ◌∙◌, arith}
 use Rattle.std.proofs.lemmas.List.{take_more}
 use Rattle.ultra_model.specs.Balance.{count, weight}
 use Rattle.ultra_model.proofs.Counting.{count-append}
@@ -25,6 +25,10 @@ module _ {X : Type 0} (t : X → Bool) where
   count_more n xs d here =
       ap (count t) (take_more xs n d here) ∙ count-append t (take n xs) (get_or xs n d ∷ []) ∙ ap (λ y. count t (take n xs) + y) (let e : weight (t (get_or xs n d)) + 0 ≡ weight (t (get_or xs n d)) = omega arith in e)
 
-  -- a count that goes on
-  pub goes_on : (xs : List X) (n : ℕ) (d : X) {a b : ℕ} → n < length xs → a ≡ count t (take n xs) → b ≡ a + weight (t (get_or xs n d)) → b ≡ count t (take (n + 1) xs)
-  goes_on xs n d here before more = omega (arith, before, more, count_more n xs d here)
+  -- what a count comes to goes on
+  pub goes_on : (xs : List X) (n : ℕ) (d : X) (o : ℕ) {a b : ℕ} → n < length xs → a ≡ o + count t (take n xs) → b ≡ a + weight (t (get_or xs n d)) → b ≡ o + count t (take (n + 1) xs)
+  goes_on xs n d o here before more = omega (arith, before, more, count_more n xs d here)
+
+  -- before the next event a sum that can take 2^32 can take one more
+  pub has_room : (xs : List X) (n : ℕ) (o : ℕ) {a : ℕ} → length xs < 2 ^ 32 → n < length xs → a ≡ o + count t (take n xs) → o + 2 ^ 32 < 2 ^ 64 → a + 1 < 2 ^ 64
+  has_room xs n o few here before room = omega (arith, few, here, before, room, count_first n xs)

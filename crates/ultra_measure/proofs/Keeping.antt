@@ -40,6 +40,6 @@ module _ (c : Settings) (program : List Instr) (from : ℕ) where
           let now : v ≡ f (after c program (to + 1)) = value ∙ ap f run in
           omega (arith, most, now, next, more)
 
-      -- the sums of a list, of which some are known
-      pub small_goes_on : {a v b : ℕ} → a ≤ (to - from) * (2 ^ 32 - 1) → v < 2 ^ 32 → b ≡ a + v → b ≤ (to + 1 - from) * (2 ^ 32 - 1)
-      small_goes_on old small next = omega (arith, old, small, next, order)
+      -- a sum that grows by no more than a value can be
+      pub small_goes_on : {a b : ℕ} → a ≤ (to - from) * (2 ^ 32 - 1) → b ≤ a + (2 ^ 32 - 1) → b ≤ (to + 1 - from) * (2 ^ 32 - 1)
+      small_goes_on old next = omega (arith, old, next, order)

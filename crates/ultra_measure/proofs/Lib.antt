@@ -4,8 +4,8 @@ pub mod Counted
 pub mod Emptiness
 pub mod Events
 pub mod More
-pub mod Arrays
 pub mod Keeping
+pub mod StageDepths
 pub mod Waiting
 pub mod ModuleCounts
 pub mod Chain

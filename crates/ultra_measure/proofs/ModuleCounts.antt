@@ -10,7 +10,6 @@ use Rattle.ultra_model.specs.Balance.{total, weight}
 use Rattle.ultra_model.proofs.Sums.{total_none, total_front, total_same}
 use Rattle.ultra_block.specs.{IsSetOf}
 use Rattle.ultra_block.specs.Held.{Held}
-use Rattle.ultra_block.specs.Held.TheVariants.{Reply, Request, Record}
 use Rattle.ultra_block.specs.Holding.{holds}
 use Rattle.ultra_holders.specs.Holders.{numbers_in}
 use Rattle.ultra_block_core.specs.Holding.{module_holds}

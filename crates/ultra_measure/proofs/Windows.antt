@@ -1,8 +1,9 @@
 -- a run, window by window
-use Rattle.std.proofs.Common.{ℕ, zero, suc, ◌≡◌, ◌+◌, ◌*◌, ◌-◌, ◌/◌, ◌≤◌, ◌<◌, Bool, true, false, List, ◌++◌, refl, sym, ◌∙◌, ap, subst, min, append-nil, arith}
-use Rattle.std.specs.Prelude.{Option, Some, None, IsSome, ◌==◌}
-use Rattle.std.specs.List.{find, flat_map, range_with_len}
+use Rattle.std.proofs.Common.{ℕ, zero, suc, ◌≡◌, ◌+◌, ◌*◌, ◌-◌, ◌≤◌, ◌<◌, Bool, true, List, ◌++◌, refl, sym, ◌∙◌, ap, subst, min, append-nil, arith}
+use Rattle.std.specs.Prelude.{None, IsSome}
+use Rattle.std.specs.List.{find, range_with_len}
 use Rattle.std.specs.Option.{unwrap_or}
+use Rattle.std.specs.Fmt.{digits}
 use Rattle.std.proofs.Math.Nat.{div-eq_of_lt-le}
 use Rattle.std.proofs.lemmas.Nat.{le-div}
 use Rattle.ultra_isa.specs.declared.Instr.{Instr}
@@ -16,18 +17,18 @@ use Rattle.ultra_block.specs.State.{BlocksState}
 use Rattle.ultra_latency.specs.declared.open.OpenTable.{OpenTable}
 use Rattle.ultra_latency.specs.Open.{open_rows}
 use Rattle.ultra_trace_alone.specs.BlocksAfter.{IsAfter}
-use Rattle.ultra_trace_alone.proofs.Count.{IsBusy, after_none, busy_none, busy_more, next_after, quiet_after, first_lines}
+use Rattle.ultra_trace_alone.proofs.Count.{after_none, busy_none, next_after, quiet_after, first_lines}
 use Rattle.ultra_trace_text.proofs.Numbered.{writes_number}
 use Rattle.ultra_measure.specs.declared.window.Window.{Window}
 use Rattle.ultra_measure.specs.declared.columns.Form.{Form}
-use Rattle.ultra_measure.specs.declared.columns.Form.TheVariants.{Lines, Values}
+use Rattle.ultra_measure.specs.declared.columns.Form.TheVariants.{Lines, Values, JobValues}
 use Rattle.ultra_measure.specs.declared.measuring.Layout.{Layout}
 use Rattle.ultra_measure.specs.declared.measuring.WindowRun.{WindowRun}
 use Rattle.ultra_measure.specs.Columns.{measures, ending}
 use Rattle.ultra_measure.specs.Kept.{IsAfterCycle, IsKept}
 use Rattle.ultra_measure.specs.Rows.{row_text, ended_if}
 use Rattle.ultra_measure.specs.Running.{AreAfter, IsOn, IsWindowRun}
-use Rattle.ultra_measure.specs.Texts.{window_of, window_count, end_if, measure_lines, measure_table, measure_text, measured, names_line}
+use Rattle.ultra_measure.specs.Texts.{all_names, window_of, window_count, job_rows, measure_lines, measure_table, measure_text, measured, names_line}
 use Rattle.ultra_measure.proofs.Ends.{count_beyond}
 
 module _ (c : Settings) (program : List Instr) where
@@ -122,10 +123,10 @@ module _ (c : Settings) (program : List Instr) where
           let first = first_lines row (k + 1) (window_count c program e) (count_past k low) in
           subst (λ text. Writes taken failures text s u) (sym first.1) (writes_failed first.0 failed put_more)
 
-  -- the names are the same for all windows
-  pub names_same : (from to start end : ℕ) → names_line (measures c program from to) ≡ names_line (measures c program start end)
-  unfolding measures
-  names_same from to start end = refl
+  -- the names are the same for all runs
+  pub names_are : (from to : ℕ) → all_names ≡ names_line (measures c program from to)
+  unfolding all_names measures digits
+  names_are from to = refl
 
   -- ---- the whole texts
   found_within : (test : ℕ → Bool) (a n b : ℕ) → a + n ≤ b + 1 → unwrap_or (find test (range_with_len a n)) b ≤ b
@@ -155,6 +156,10 @@ module _ (c : Settings) (program : List Instr) where
   pub table_is : (e : ℕ) → names_line (window_of c program e 0) ++ by_number (window_count c program e) (λ k. row_text Values (window_of c program e k)) ≡ measure_table c program e
   unfolding measure_table
   table_is e = refl
+
+  pub rows_are : (job e : ℕ) → by_number (window_count c program e) (λ k. row_text (JobValues job) (window_of c program e k)) ≡ job_rows c program job e
+  unfolding job_rows
+  rows_are job e = refl
 
   -- ---- a window was run, from k times its cycles on
   module _ (form : Form) (e : ℕ) (some : 1 ≤ e) (k from : ℕ) (start : from ≡ k * e) (old b : BlocksState) (before table : OpenTable) (r : WindowRun) (on : IsOn c program from old before) (ran : IsWindowRun c program from e b table r) where

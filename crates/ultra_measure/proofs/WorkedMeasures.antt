@@ -9,9 +9,10 @@ use Rattle.ultra_model.specs.Balance.{total}
 use Rattle.ultra_model.specs.Phases.{after, cycle, reply_phase, memory_phase, request_phase, processor_phase, arriving_reply, arriving_request}
 use Rattle.ultra_model.specs.Trace.{cycle_count, last_state}
 use Rattle.ultra_measure.specs.Window.{greatest}
-use Rattle.ultra_latency.specs.Latency.{issued_in}
+use Rattle.ultra_serial_law.specs.SerialList.{history}
+use Rattle.ultra_latency.specs.Latency.{latest_issue}
 use Rattle.ultra_measure.specs.Columns.{measures}
-use Rattle.ultra_measure.specs.Texts.{measure_text, measure_table, values_line}
+use Rattle.ultra_measure.specs.Texts.{job_rows, measure_text, measure_table, values_line}
 
 abbrev one_stage : Settings
 one_stage = record { stages = 1; request_places = 4; reply_places = 8; wait_places = 4; most_open = 2; cells = 16; cycles = 1000; initial = [] }
@@ -62,7 +63,7 @@ combined_pair : measure_text one_stage add_one ≡
     ++ line (codes "records_sum_0 3")
     ++ line (codes "records_most_0 1")
     ++ line (codes "full_waits_0 0")
-unfolding measure_text measures greatest total issued_in cycle_count last_state after cycle start reply_phase memory_phase request_phase processor_phase arriving_reply arriving_request places digits
+unfolding measure_text measures greatest total latest_issue history cycle_count last_state after cycle start reply_phase memory_phase request_phase processor_phase arriving_reply arriving_request places digits
 combined_pair = refl
 
 -- windows of 4 cycles
@@ -71,8 +72,16 @@ two_level_tree : measure_table record one_stage { stages = 2 } add_number 4 ≡
     ++ line (codes "2,4,4,8,4,2,16,0,4,,4,0,0,2,0,0,,,,12,0,8,4,1,0,0,2,2,1,0,0,2,1,0,0,0,0,0,0,0,0,0,,,,,,,,,,,,,,,,,,,,,,,,,,,,,,,,")
     ++ line (codes "2,4,4,8,4,2,16,4,8,,0,0,1,1,0,1,,,,0,0,16,0,0,1,1,0,0,0,0,0,8,1,0,1,1,1,2,1,3,1,0,,,,,,,,,,,,,,,,,,,,,,,,,,,,,,,,")
     ++ line (codes "2,4,4,8,4,2,16,8,10,quiet,0,4,0,0,0,0,7,7,7.000,0,0,4,0,0,0,0,0,0,0,4,1,0,0,0,0,0,0,0,0,0,0,0,,,,,,,,,,,,,,,,,,,,,,,,,,,,,,,,")
-unfolding measure_table measures greatest total issued_in cycle_count last_state after cycle start reply_phase memory_phase request_phase processor_phase arriving_reply arriving_request places digits
+unfolding measure_table measures greatest total latest_issue history cycle_count last_state after cycle start reply_phase memory_phase request_phase processor_phase arriving_reply arriving_request places digits
 two_level_tree = refl
+
+-- the rows of job 1 of a sweep, in windows of 3 cycles
+rows_of_a_job : job_rows one_stage add_one 1 3 ≡
+    line (codes "1,1,2,4,8,4,2,16,0,3,,2,0,0,0,0,0,,,,6,0,2,2,1,0,0,0,0,0,0,0,0,0,0,,,,,,,,,,,,,,,,,,,,,,,,,,,,,,,,,,,,,,,,")
+    ++ line (codes "1,1,2,4,8,4,2,16,3,6,,0,0,1,1,0,1,,,,0,0,6,0,0,1,1,1,1,1,0,0,3,1,0,,,,,,,,,,,,,,,,,,,,,,,,,,,,,,,,,,,,,,,,")
+    ++ line (codes "1,1,2,4,8,4,2,16,6,8,quiet,0,2,0,0,0,0,5,5,5.000,0,0,2,0,0,0,0,0,0,0,2,1,0,0,0,,,,,,,,,,,,,,,,,,,,,,,,,,,,,,,,,,,,,,,,")
+unfolding job_rows measures greatest total latest_issue history cycle_count last_state after cycle start reply_phase memory_phase request_phase processor_phase arriving_reply arriving_request places digits
+rows_of_a_job = refl
 
 -- the limit ends the run
 cycle_limit : measure_text record one_stage { cycles = 4 } add_one ≡
@@ -107,7 +116,7 @@ cycle_limit : measure_text record one_stage { cycles = 4 } add_one ≡
     ++ line (codes "records_sum_0 1")
     ++ line (codes "records_most_0 1")
     ++ line (codes "full_waits_0 0")
-unfolding measure_text measures greatest total issued_in cycle_count last_state after cycle start reply_phase memory_phase request_phase processor_phase arriving_reply arriving_request places digits
+unfolding measure_text measures greatest total latest_issue history cycle_count last_state after cycle start reply_phase memory_phase request_phase processor_phase arriving_reply arriving_request places digits
 cycle_limit = refl
 
 -- ---- the values of whole runs
@@ -117,7 +126,7 @@ whole_run c program = values_line (measures c program 0 (cycle_count c program))
 -- without wait buffers
 uncombined_pair : whole_run record one_stage { wait_places = 0 } add_one ≡
     line (codes "1,2,4,8,0,2,16,0,9,quiet,2,2,2,0,0,2,5,6,5.500,6,0,11,2,1,2,2,0,3,2,2,1,0,0,0,,,,,,,,,,,,,,,,,,,,,,,,,,,,,,,,,,,,,,,,")
-unfolding measures greatest total issued_in cycle_count last_state after cycle start reply_phase memory_phase request_phase processor_phase arriving_reply arriving_request places digits
+unfolding measures greatest total latest_issue history cycle_count last_state after cycle start reply_phase memory_phase request_phase processor_phase arriving_reply arriving_request places digits
 uncombined_pair = refl
 
 -- each adds 1 to the cell of twice its number, which the second doesn't have
@@ -126,7 +135,7 @@ add_beyond = instr.Number 1 ∷ instr.Add 1 1 1 ∷ instr.Set 2 1 ∷ instr.Faa 
 
 address_fault : whole_run record one_stage { cells = 1 } add_beyond ≡
     line (codes "1,2,4,8,4,2,1,0,9,quiet,1,1,1,0,1,1,5,5,5.000,7,0,5,1,1,1,1,0,1,1,1,1,0,0,0,,,,,,,,,,,,,,,,,,,,,,,,,,,,,,,,,,,,,,,,")
-unfolding measures greatest total issued_in cycle_count last_state after cycle start reply_phase memory_phase request_phase processor_phase arriving_reply arriving_request places digits
+unfolding measures greatest total latest_issue history cycle_count last_state after cycle start reply_phase memory_phase request_phase processor_phase arriving_reply arriving_request places digits
 address_fault = refl
 
 -- both wait for their answers
@@ -135,5 +144,5 @@ add_and_wait = instr.Set 1 0 ∷ instr.Set 2 1 ∷ instr.Faa 3 1 2 ∷ instr.Fen
 
 stalled_pair : whole_run one_stage add_and_wait ≡
     line (codes "1,2,4,8,4,2,16,0,9,quiet,2,2,1,1,0,1,5,5,5.000,16,10,10,2,1,1,1,1,1,1,2,1,3,1,0,,,,,,,,,,,,,,,,,,,,,,,,,,,,,,,,,,,,,,,,")
-unfolding measures greatest total issued_in cycle_count last_state after cycle start reply_phase memory_phase request_phase processor_phase arriving_reply arriving_request places digits
+unfolding measures greatest total latest_issue history cycle_count last_state after cycle start reply_phase memory_phase request_phase processor_phase arriving_reply arriving_request places digits
 stalled_pair = refl

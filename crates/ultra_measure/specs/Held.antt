@@ -56,11 +56,11 @@ held_at Request = requests
 held_at Record = records
 held_at Reply = replies
 
--- how many places it has there
+-- how many places it has there, where it is counted once all are taken: only wait buffers are
 abbrev pub places_for : Settings → Held → ℕ
-places_for c Request = c.request_places
+places_for c Request = 0
 places_for c Record = c.wait_places
-places_for c Reply = c.reply_places
+places_for c Reply = 0
 
 -- whether all of them are taken
 abbrev pub full_at : Settings → Held → ℕ → Machine → ℕ → ℕ

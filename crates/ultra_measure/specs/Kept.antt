@@ -1,5 +1,5 @@
 -- what a window keeps while a run goes on: its numbers over the cycles from `from` on, below `to`
-use Rattle.std.specs.Prelude.{◌≡◌, ℕ, ◌-◌, ◌+◌, ◌*◌, ◌^◌, ◌<◌, ◌≤◌, List, length, slice_index}
+use Rattle.std.specs.Prelude.{◌≡◌, ℕ, ◌-◌, ◌+◌, ◌*◌, ◌^◌, ◌<◌, ◌≤◌, List, length, max, slice_index}
 use Rattle.ultra_isa.specs.declared.Instr.{Instr}
 use Rattle.ultra_model.specs.Machine.{Settings, Machine, size}
 use Rattle.ultra_model.specs.Phases.{after}
@@ -71,6 +71,21 @@ module _ (c : Settings) (program : List Instr) (from to : ℕ) where
     pub requests : AreDepths Request w.requests
     pub replies : AreDepths Reply w.replies
     pub records : AreDepths Record w.records
+
+-- what the stages hold of a kind in one state of a machine has come to these
+module _ (c : Settings) (m : Machine) (held : Held) (old new : Depths) where
+  pub record AreWithState : Type 0 where
+    pub sums : (s : ℕ) → s < c.stages
+        → slice_index new.sums s ≡ slice_index old.sums s + total (size c) (held_at held s m)
+    pub small : (s : ℕ) → s < 6
+        → slice_index new.sums s ≤ slice_index old.sums s + (2 ^ 32 - 1)
+    pub mosts : (s : ℕ) → s < c.stages
+        → slice_index new.mosts s
+        ≡ max (slice_index old.mosts s) (greatest (size c) (held_at held s m))
+    pub full : (s : ℕ) → s < c.stages
+        → slice_index new.full s ≡ slice_index old.full s + total (size c) (full_at c held s m)
+    pub full_small : (s : ℕ) → s < 6
+        → slice_index new.full s ≤ slice_index old.full s + (2 ^ 32 - 1)
 
 -- the machine is as after cycle n, whose number counts from 0
 abbrev pub IsAfterCycle : ℕ → BlocksState → Type 0

@@ -1,13 +1,13 @@
 -- the forms in which the measures of a window are written
-use Rattle.std.specs.Prelude.{ℕ, List, [], ◌++◌, Bool, true, false, Option, Some, None, codes, decimal}
+use Rattle.std.specs.Prelude.{ℕ, List, [], ◌++◌, Bool, Option, Some, None, codes, decimal}
 use Rattle.std.specs.List.{flat_map}
 use Rattle.ultra_model.specs.Text.{newline}
 use Rattle.ultra_measure.specs.declared.columns.Form.{Form}
-use Rattle.ultra_measure.specs.declared.columns.Form.TheVariants.{Lines, Names, Values}
+use Rattle.ultra_measure.specs.declared.columns.Form.TheVariants.{Lines, Values, JobValues}
 use Rattle.ultra_measure.specs.declared.columns.Value.{Value}
 use Rattle.ultra_measure.specs.declared.columns.Value.TheVariants.{Number, Thousandths, Ended}
 use Rattle.ultra_measure.specs.Columns.{Column, of_stage, thousandths_text, end_word}
-use Rattle.ultra_measure.specs.Texts.{line_if, text_if, measure_lines, names_line, values_line}
+use Rattle.ultra_measure.specs.Texts.{line_if, text_if, measure_lines, values_line, job_values_line}
 
 -- the text of a value, where there is one
 abbrev pub value_text : Value → List ℕ
@@ -32,14 +32,14 @@ name_text name (Some s) = of_stage name s
 -- what is written of a column in front of which others stand
 abbrev pub column_text : Form → Column → List ℕ
 column_text Lines i = line_if i.0 i.1
-column_text Names i = codes "," ++ i.0
 column_text Values i = codes "," ++ text_if i.1
+column_text (JobValues job) i = codes "," ++ text_if i.1
 
 -- of the first one
 abbrev pub first_text : Form → Column → List ℕ
 first_text Lines i = line_if i.0 i.1
-first_text Names i = i.0
 first_text Values i = text_if i.1
+first_text (JobValues job) i = decimal job ++ codes "," ++ text_if i.1
 
 abbrev pub columns_text : Form → List Column → List ℕ
 columns_text form cs = flat_map (column_text form) cs
@@ -47,11 +47,11 @@ columns_text form cs = flat_map (column_text form) cs
 -- what ends a row
 abbrev pub row_end : Form → List ℕ
 row_end Lines = []
-row_end Names = newline
 row_end Values = newline
+row_end (JobValues job) = newline
 
 -- of a whole window
 abbrev pub row_text : Form → List Column → List ℕ
 row_text Lines cs = measure_lines cs
-row_text Names cs = names_line cs
 row_text Values cs = values_line cs
+row_text (JobValues job) cs = job_values_line job cs

@@ -1,5 +1,5 @@
 -- a run in its course, window by window
-use Rattle.std.specs.Prelude.{◌≡◌, ℕ, ◌+◌, ◌<◌, ◌≤◌, List, false, min, Option, None, IsSome}
+use Rattle.std.specs.Prelude.{◌≡◌, ℕ, ◌+◌, ◌<◌, ◌≤◌, List, false, min, None, IsSome}
 use Rattle.ultra_isa.specs.declared.Instr.{Instr}
 use Rattle.ultra_model.specs.Machine.{Settings, is_quiet}
 use Rattle.ultra_model.specs.Phases.{after}

@@ -1,13 +1,13 @@
 -- how the measures of a run are written
-use Rattle.std.specs.Prelude.{ℕ, ◌+◌, ◌-◌, ◌*◌, ◌/◌, ◌≤◌, List, [], ◌∷◌, ◌++◌, Bool, true, false, min, Option, Some, None, codes}
+use Rattle.std.specs.Prelude.{ℕ, ◌+◌, ◌-◌, ◌*◌, ◌/◌, ◌≤◌, List, [], ◌∷◌, ◌++◌, Bool, true, false, min, Option, Some, None, codes, decimal}
 use Rattle.std.specs.List.{flat_map, join_by, range_with_len}
 use Rattle.ultra_isa.specs.declared.Instr.{Instr}
 use Rattle.ultra_model.specs.Machine.{Settings}
 use Rattle.ultra_model.specs.Text.{newline}
 use Rattle.ultra_model.specs.Trace.{by_number, cycle_count}
 use Rattle.ultra_measure.specs.declared.measuring.Layout.{Layout}
-use Rattle.ultra_measure.specs.declared.measuring.Layout.TheVariants.{Lines, Table}
-use Rattle.ultra_measure.specs.Columns.{Column, measures}
+use Rattle.ultra_measure.specs.declared.measuring.Layout.TheVariants.{Lines, Table, JobRows}
+use Rattle.ultra_measure.specs.Columns.{Column, of_stage, measures}
 
 -- a line for each measure that has a value
 abbrev pub line_if : List ℕ → Option (List ℕ) → List ℕ
@@ -28,6 +28,27 @@ names_line cs = join_by (λ (i : Column). i.0) (codes ",") cs ++ newline
 abbrev pub values_line : List Column → List ℕ
 values_line cs = join_by (λ (i : Column). text_if i.1) (codes ",") cs ++ newline
 
+-- the values of a window of a job of a sweep
+abbrev pub job_values_line : ℕ → List Column → List ℕ
+job_values_line job cs = decimal job ++ codes "," ++ values_line cs
+
+-- the names of all measures of a stage, each behind a comma
+abbrev pub stage_names : ℕ → List ℕ
+stage_names s =
+    flat_map (λ name. codes "," ++ of_stage name s) (codes "combined"
+    ∷ codes "request_queue_sum" ∷ codes "request_queue_most"
+    ∷ codes "reply_queue_sum" ∷ codes "reply_queue_most"
+    ∷ codes "records_sum" ∷ codes "records_most" ∷ codes "full_waits" ∷ [])
+
+-- the names of all measures of any run, on one line
+unfoldable pub all_names : List ℕ
+all_names =
+    codes "stages,pes,request_places,reply_places,wait_places,open,cells,from,to,end"
+    ++ codes ",issued,answered,acts,combined,faults,acts_most"
+    ++ codes ",latency_least,latency_greatest,latency_mean"
+    ++ codes ",running_sum,stalled_sum,open_sum,pni_sum,pni_most,inp_sum,out_sum"
+    ++ flat_map stage_names (range_with_len 0 6) ++ newline
+
 module _ (c : Settings) (program : List Instr) where
   -- the one window of a run, as lines
   unfoldable pub measure_text : List ℕ
@@ -45,15 +66,21 @@ module _ (c : Settings) (program : List Instr) where
   measure_table e =
       names_line (window_of e 0) ++ by_number (window_count e) (λ k. values_line (window_of e k))
 
+  -- as the rows that the run has in a table of several jobs
+  unfoldable pub job_rows : ℕ → ℕ → List ℕ
+  job_rows job e = by_number (window_count e) (λ k. job_values_line job (window_of e k))
+
 -- ---- as they are asked for
 -- each window has a cycle
 abbrev pub HasWindows : Layout → Type 0
 HasWindows Lines = Unit {0}
 HasWindows (Table e) = 1 ≤ e
+HasWindows (JobRows job e) = 1 ≤ e
 
 abbrev pub measured : Settings → List Instr → Layout → List ℕ
 measured c program Lines = measure_text c program
 measured c program (Table e) = measure_table c program e
+measured c program (JobRows job e) = job_rows c program job e
 
 -- whether a run was quiet at its end, where it ends: with the machine quiet, or with the last cycle
 -- that the settings allow

@@ -1,13 +1,15 @@
 //! The measures of a window, written as lines or as a row of a table.
 
-ghost use Rattle.std.specs.Prelude.{◌≡◌, ℕ, ◌++◌, ◌<◌, ◌≤◌, Bool, true, false, None, codes, slice_index};
+ghost use Rattle.std.specs.Prelude.{◌≡◌, ℕ, List, ◌++◌, ◌<◌, ◌≤◌, Bool, true, false, None, codes, slice_index};
+ghost use Rattle.ultra_isa.specs.declared.Instr.{Instr as InstrOf};
+ghost use Rattle.ultra_model.specs.Machine.{Settings};
 ghost use Rattle.std.specs.List.{flat_map, range_with_len};
 ghost use Rattle.ultra_io.specs.TextBuffer.{Writes};
 ghost use Rattle.ultra_latency.specs.Summary.{AreSmall};
 ghost use Rattle.ultra_measure.specs.Columns.{event_columns, mean_if, measures, number, number_if, of_stage, setting_columns, stage_columns, state_columns, thousandths_text, ending};
 ghost use Rattle.ultra_measure.specs.Kept.{IsKept};
 ghost use Rattle.ultra_measure.specs.Rows.{column_text, columns_text, ended_if, first_text, name_text, row_end, row_text, value_if, value_text};
-ghost use Rattle.ultra_measure.specs.Texts.{line_if, text_if};
+ghost use Rattle.ultra_measure.specs.Texts.{all_names, line_if, names_line, text_if};
 ghost use Rattle.ultra_measure.specs.Window.{greatest};
 
 use crate::window::Window;
@@ -21,10 +23,37 @@ use ultra_msg::Sink;
 pub(crate) enum Form {
     /// A line for each that has a value.
     Lines,
-    /// The names alone, on one line.
-    Names,
     /// The values alone, on one line.
     Values,
+    /// The number of a job of a sweep in front of the values, on one line.
+    JobValues(u64),
+}
+
+/// The names of all measures, on one line.
+const NAMES: &[u8] = b"stages,pes,request_places,reply_places,wait_places,open,cells,from,to,end,\
+issued,answered,acts,combined,faults,acts_most,latency_least,latency_greatest,latency_mean,\
+running_sum,stalled_sum,open_sum,pni_sum,pni_most,inp_sum,out_sum,\
+combined_0,request_queue_sum_0,request_queue_most_0,reply_queue_sum_0,reply_queue_most_0,\
+records_sum_0,records_most_0,full_waits_0,\
+combined_1,request_queue_sum_1,request_queue_most_1,reply_queue_sum_1,reply_queue_most_1,\
+records_sum_1,records_most_1,full_waits_1,\
+combined_2,request_queue_sum_2,request_queue_most_2,reply_queue_sum_2,reply_queue_most_2,\
+records_sum_2,records_most_2,full_waits_2,\
+combined_3,request_queue_sum_3,request_queue_most_3,reply_queue_sum_3,reply_queue_most_3,\
+records_sum_3,records_most_3,full_waits_3,\
+combined_4,request_queue_sum_4,request_queue_most_4,reply_queue_sum_4,reply_queue_most_4,\
+records_sum_4,records_most_4,full_waits_4,\
+combined_5,request_queue_sum_5,request_queue_most_5,reply_queue_sum_5,reply_queue_most_5,\
+records_sum_5,records_most_5,full_waits_5\n";
+
+/// The names of all measures, as the first line of a table has them. They are the same for all
+/// runs.
+pub fn measure_names() -> &'static [u8]
+    ensures value { result.now ≡ all_names }
+    ensures same { (c : Settings) (program : List InstrOf) (from to : ℕ) →
+        result.now ≡ names_line (measures c program from to) }
+{
+    NAMES
 }
 
 /// A value of a measure.
@@ -32,13 +61,15 @@ pub(crate) enum Form {
 pub(crate) enum Value {
     /// A number.
     Number(u64),
-    /// So many thousandths, with three decimals.
+    /// A number of thousandths, with three decimals.
     Thousandths(u64),
     /// How the run ended: whether it was quiet.
     Ended(bool),
 }
 
-/// Writes the measures of a window. The machine is as after its last cycle, `to` is the number of the next one, and `ended` says whether the run was quiet at its end, where it ended with the window.
+/// Writes the measures of a window. The machine is as after its last cycle, `to` is the number of
+/// the next one, and `ended` says whether the run was quiet at its end, where it ended with the
+/// window.
 pub(crate) fn put_row<S: Sink>(
     buffer: &mut TextBuffer<'_, S>,
     form: Form,
@@ -48,8 +79,11 @@ pub(crate) fn put_row<S: Sink>(
     ended: Option<bool>,
 )
     requires kept { IsKept blocks.now.config blocks.now.program window.now.from to window.now }
-    requires ended { ended_if ended ≡ ending blocks.now.config blocks.now.program window.now.from to }
-    ensures { Writes S.taken S.failures (row_text form (measures blocks.now.config blocks.now.program window.now.from to)) buffer.old buffer.new }
+    requires ended { ended_if ended ≡
+        ending blocks.now.config blocks.now.program window.now.from to }
+    ensures { Writes S.taken S.failures
+        (row_text form (measures blocks.now.config blocks.now.program window.now.from to))
+        buffer.old buffer.new }
 {
     put_first(buffer, form, b"stages", u64::from(blocks.config().stages()));
     put_settings(buffer, form, blocks, window.from, to, ended);
@@ -69,7 +103,9 @@ fn put_settings<S: Sink>(
     ended: Option<bool>,
 )
     requires { ended_if ended ≡ ending blocks.now.config blocks.now.program from to }
-    ensures { Writes S.taken S.failures (columns_text form (setting_columns blocks.now.config blocks.now.program from to)) buffer.old buffer.new }
+    ensures { Writes S.taken S.failures
+        (columns_text form (setting_columns blocks.now.config blocks.now.program from to))
+        buffer.old buffer.new }
 {
     let config = blocks.config();
     put_number(buffer, form, b"pes", u64::from(config.net().size()));
@@ -107,7 +143,9 @@ fn put_events<S: Sink>(
     to: u32,
 )
     requires { IsKept blocks.now.config blocks.now.program window.now.from to window.now }
-    ensures { Writes S.taken S.failures (columns_text form (event_columns blocks.now.config blocks.now.program window.now.from to)) buffer.old buffer.new }
+    ensures { Writes S.taken S.failures
+        (columns_text form (event_columns blocks.now.config blocks.now.program window.now.from to))
+        buffer.old buffer.new }
 {
     let events = &window.events;
     let latencies = &window.latencies;
@@ -149,7 +187,9 @@ fn put_states<S: Sink>(
     to: u32,
 )
     requires { IsKept blocks.now.config blocks.now.program window.now.from to window.now }
-    ensures { Writes S.taken S.failures (columns_text form (state_columns blocks.now.config blocks.now.program window.now.from to)) buffer.old buffer.new }
+    ensures { Writes S.taken S.failures
+        (columns_text form (state_columns blocks.now.config blocks.now.program window.now.from to))
+        buffer.old buffer.new }
 {
     let elements = &window.elements;
     put_number(buffer, form, b"running_sum", elements.running);
@@ -170,7 +210,10 @@ fn put_stages<S: Sink>(
     to: u32,
 )
     requires { IsKept blocks.now.config blocks.now.program window.now.from to window.now }
-    ensures { Writes S.taken S.failures (columns_text form (flat_map (stage_columns blocks.now.config blocks.now.program window.now.from to) (range_with_len 0 6))) buffer.old buffer.new }
+    ensures { Writes S.taken S.failures
+        (columns_text form
+        (flat_map (stage_columns blocks.now.config blocks.now.program window.now.from to)
+        (range_with_len 0 6))) buffer.old buffer.new }
 {
     for stage in 0..6 {
         put_stage(buffer, form, blocks, window, to, stage);
@@ -188,7 +231,10 @@ fn put_stage<S: Sink>(
 )
     requires kept { IsKept blocks.now.config blocks.now.program window.now.from to window.now }
     requires stage { stage < 6 }
-    ensures { Writes S.taken S.failures (columns_text form (stage_columns blocks.now.config blocks.now.program window.now.from to stage)) buffer.old buffer.new }
+    ensures { Writes S.taken S.failures
+        (columns_text form
+        (stage_columns blocks.now.config blocks.now.program window.now.from to stage)) buffer.old
+        buffer.new }
 {
     let there = stage < blocks.config().stages();
     let at = stage as usize;
@@ -254,7 +300,10 @@ fn put_of_stage<S: Sink>(
     there: bool,
     value: u64,
 )
-    ensures { Writes S.taken S.failures (column_text form (of_stage name.now stage, elim there [ true ↦ number value | false ↦ None ])) buffer.old buffer.new }
+    ensures { Writes S.taken S.failures
+        (column_text form
+        (of_stage name.now stage, elim there [ true ↦ number value | false ↦ None ])) buffer.old
+        buffer.new }
 {
     let value = if there {
         Some(Value::Number(value))
@@ -266,18 +315,24 @@ fn put_of_stage<S: Sink>(
 
 /// Writes the first measure, which has a number.
 fn put_first<S: Sink>(buffer: &mut TextBuffer<'_, S>, form: Form, name: &[u8], value: u64)
-    ensures { Writes S.taken S.failures (first_text form (name.now, number value)) buffer.old buffer.new }
+    ensures { Writes S.taken S.failures (first_text form (name.now, number value)) buffer.old
+        buffer.new }
 {
     match form {
         Form::Lines => put_line(buffer, name, None, Some(Value::Number(value))),
-        Form::Names => buffer.put(name),
         Form::Values => put_value(buffer, Value::Number(value)),
+        Form::JobValues(job) => {
+            buffer.put_count(job as usize);
+            buffer.put(b",");
+            put_value(buffer, Value::Number(value));
+        }
     }
 }
 
 /// Writes a measure that has a number, behind another.
 fn put_number<S: Sink>(buffer: &mut TextBuffer<'_, S>, form: Form, name: &[u8], value: u64)
-    ensures { Writes S.taken S.failures (column_text form (name.now, number value)) buffer.old buffer.new }
+    ensures { Writes S.taken S.failures (column_text form (name.now, number value)) buffer.old
+        buffer.new }
 {
     put_column(buffer, form, name, None, Some(Value::Number(value)));
 }
@@ -290,15 +345,12 @@ fn put_column<S: Sink>(
     stage: Option<u32>,
     value: Option<Value>,
 )
-    ensures { Writes S.taken S.failures (column_text form (name_text name.now stage, value_if value)) buffer.old buffer.new }
+    ensures { Writes S.taken S.failures
+        (column_text form (name_text name.now stage, value_if value)) buffer.old buffer.new }
 {
     match form {
         Form::Lines => put_line(buffer, name, stage, value),
-        Form::Names => {
-            buffer.put(b",");
-            put_name(buffer, name, stage);
-        }
-        Form::Values => {
+        Form::Values | Form::JobValues(_) => {
             buffer.put(b",");
             put_value_if(buffer, value);
         }
@@ -312,7 +364,8 @@ fn put_line<S: Sink>(
     stage: Option<u32>,
     value: Option<Value>,
 )
-    ensures { Writes S.taken S.failures (line_if (name_text name.now stage) (value_if value)) buffer.old buffer.new }
+    ensures { Writes S.taken S.failures (line_if (name_text name.now stage) (value_if value))
+        buffer.old buffer.new }
 {
     if let Some(value) = value {
         put_name(buffer, name, stage);
@@ -371,7 +424,7 @@ fn end_row<S: Sink>(buffer: &mut TextBuffer<'_, S>, form: Form)
 {
     match form {
         Form::Lines => {}
-        Form::Names | Form::Values => buffer.put(b"\n"),
+        Form::Values | Form::JobValues(_) => buffer.put(b"\n"),
     }
 }
 

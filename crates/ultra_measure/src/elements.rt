@@ -10,7 +10,9 @@ ghost use Rattle.ultra_measure.specs.Window.{greatest};
 
 use ultra_block::Blocks;
 
-/// How many processing elements run, how many of these would stall next, and how many cells are open, over all of them; and the same of the requests that aren't in the network yet, and the most that one has.
+/// How many processing elements run, how many of these would stall next, and how many cells are
+/// open, over all of them; and the same of the requests that aren't in the network yet, and the
+/// most that one has.
 #[derive(Clone, Copy, Drop)]
 pub(crate) struct ElementsNow {
     /// Neither halted nor faulted.
@@ -28,11 +30,15 @@ pub(crate) struct ElementsNow {
 /// What the processing elements of a machine are doing.
 pub(crate) fn elements_now(blocks: &Blocks) -> ElementsNow
     ensures running { result.running ≡ total (size blocks.now.config) (running blocks.now.machine) }
-    ensures stalled { result.stalled ≡ total (size blocks.now.config) (stalled blocks.now.config blocks.now.program blocks.now.machine) }
+    ensures stalled { result.stalled ≡
+        total (size blocks.now.config)
+        (stalled blocks.now.config blocks.now.program blocks.now.machine) }
     ensures open { result.open ≡ total (size blocks.now.config) (opened blocks.now.machine) }
     ensures pending { result.pending ≡ total (size blocks.now.config) (pending blocks.now.machine) }
-    ensures few { (result.running ≤ 512) × (result.stalled ≤ 512) × (result.open ≤ 512) × (result.pending ≤ 512) }
-    ensures pending_most { result.pending_most ≡ greatest (size blocks.now.config) (pending blocks.now.machine) }
+    ensures few { (result.running ≤ 512) × (result.stalled ≤ 512) × (result.open ≤ 512) ×
+        (result.pending ≤ 512) }
+    ensures pending_most { result.pending_most ≡
+        greatest (size blocks.now.config) (pending blocks.now.machine) }
 {
     let mut all = ElementsNow {
         running: 0,
@@ -56,10 +62,12 @@ pub(crate) fn elements_now(blocks: &Blocks) -> ElementsNow
 fn element_now(blocks: &Blocks, pe: u32) -> ElementsNow
     requires { pe < 2 ^ blocks.now.config.stages }
     ensures running { result.running ≡ running blocks.now.machine pe }
-    ensures stalled { result.stalled ≡ stalled blocks.now.config blocks.now.program blocks.now.machine pe }
+    ensures stalled { result.stalled ≡
+        stalled blocks.now.config blocks.now.program blocks.now.machine pe }
     ensures open { result.open ≡ opened blocks.now.machine pe }
     ensures pending { result.pending ≡ pending blocks.now.machine pe }
-    ensures few { (result.running ≤ 8) × (result.stalled ≤ 8) × (result.open ≤ 8) × (result.pending ≤ 8) }
+    ensures few { (result.running ≤ 8) × (result.stalled ≤ 8) × (result.open ≤ 8) ×
+        (result.pending ≤ 8) }
 {
     let element = blocks.element(pe);
     let pending = element.interface.pending_count() as u32;
@@ -94,7 +102,8 @@ pub(crate) struct ElementSums {
 impl ElementSums {
     /// Over no cycle.
     pub(crate) fn new() -> ElementSums
-        ensures { (c : Settings) (program : List InstrOf) (from : ℕ) → AreElementSums c program from from result }
+        ensures { (c : Settings) (program : List InstrOf) (from : ℕ) →
+            AreElementSums c program from from result }
     {
         ElementSums {
             running: 0,

@@ -5,79 +5,17 @@ ghost use Rattle.ultra_isa.specs.declared.Instr.{Instr as InstrOf};
 ghost use Rattle.ultra_model.specs.Machine.{Settings};
 ghost use Rattle.ultra_model.specs.Balance.{weight};
 ghost use Rattle.ultra_measure.specs.Happened.{is_issue, is_delivery, is_act, is_act_of, is_combination, is_combination_in};
-ghost use Rattle.ultra_measure.specs.Counts.{AreCounts, CanCountMore};
+ghost use Rattle.ultra_measure.specs.Counts.{AreWithEvents, CanTake};
 ghost use Rattle.ultra_measure.specs.Kept.{AreEventSums, IsAfterCycle};
 
-use crate::depths::add_each;
 use ultra_block::Blocks;
 use ultra_msg::Event;
 
-/// Counts of events.
-#[derive(Clone, Copy, Drop)]
-pub(crate) struct Counts {
-    /// Issues.
-    pub(crate) issued: u32,
-    /// Deliveries.
-    pub(crate) answered: u32,
-    /// Servings.
-    pub(crate) acts: u32,
-    /// Combinations.
-    pub(crate) combined: u32,
-    /// Combinations, by stage.
-    pub(crate) combined_in: [u32; 6],
-    /// Servings, by module.
-    pub(crate) acts_of: [u32; 64],
-}
-
-/// Counts the events of a cycle.
-pub(crate) fn count_events(events: &[Event]) -> Counts
-    requires { length events.now < 2 ^ 32 }
-    ensures { AreCounts events.now result }
-{
-    let mut counts = Counts {
-        issued: 0,
-        answered: 0,
-        acts: 0,
-        combined: 0,
-        combined_in: [0; 6],
-        acts_of: [0; 64],
-    };
-    for event in events {
-        counts.add(event);
-    }
-    counts
-}
-
-impl Counts {
-    /// One event more.
-    fn add(&mut self, event: &Event)
-        requires { CanCountMore self.old }
-        ensures issued { self.new.issued ≡ self.old.issued + weight (is_issue event.now) }
-        ensures answered { self.new.answered ≡ self.old.answered + weight (is_delivery event.now) }
-        ensures acts { self.new.acts ≡ self.old.acts + weight (is_act event.now) }
-        ensures combined { self.new.combined ≡ self.old.combined + weight (is_combination event.now) }
-        ensures combined_in { (s : ℕ) → s < 6 → slice_index self.new.combined_in s ≡ slice_index self.old.combined_in s + weight (is_combination_in s event.now) }
-        ensures acts_of { (k : ℕ) → k < 64 → slice_index self.new.acts_of k ≡ slice_index self.old.acts_of k + weight (is_act_of k event.now) }
-    {
-        match *event {
-            Event::Delivered(_) => self.answered += 1,
-            Event::Served { module, .. } => {
-                self.acts += 1;
-                count_at(&mut self.acts_of, module);
-            }
-            Event::Combined { stage, .. } => {
-                self.combined += 1;
-                count_at(&mut self.combined_in, stage);
-            }
-            Event::Issued { .. } => self.issued += 1,
-        }
-    }
-}
-
 /// One more at a place, if there is such a place.
-fn count_at<const N: usize>(counts: &mut [u32; N], place: u32)
-    requires { (k : ℕ) → k < N → slice_index counts.old k < 2 ^ 32 - 1 }
-    ensures { (k : ℕ) → k < N → slice_index counts.new k ≡ slice_index counts.old k + weight (place == k) }
+fn count_at<const N: usize>(counts: &mut [u64; N], place: u32)
+    requires { (k : ℕ) → k < N → slice_index counts.old k + 1 < 2 ^ 64 }
+    ensures { (k : ℕ) → k < N → slice_index counts.new k ≡
+        slice_index counts.old k + weight (place == k) }
 {
     let place = place as usize;
     if place < N {
@@ -107,7 +45,8 @@ pub(crate) struct EventSums {
 impl EventSums {
     /// Over no cycle.
     pub(crate) fn new() -> EventSums
-        ensures { (c : Settings) (program : List InstrOf) (from : ℕ) → AreEventSums c program from from result }
+        ensures { (c : Settings) (program : List InstrOf) (from : ℕ) →
+            AreEventSums c program from from result }
     {
         EventSums {
             issued: 0,
@@ -130,14 +69,47 @@ impl EventSums {
         requires kept { AreEventSums blocks.now.config blocks.now.program from cycle self.old }
         ensures { AreEventSums blocks.now.config blocks.now.program from (cycle + 1) self.new }
     {
-        let counts = count_events(blocks.events_of_one());
         let faults = blocks.stops_of_one().len();
-        self.issued += u64::from(counts.issued);
-        self.answered += u64::from(counts.answered);
-        self.acts += u64::from(counts.acts);
-        self.combined += u64::from(counts.combined);
+        self.add_events(blocks.events_of_one());
         self.faults += faults as u64;
-        add_each(&mut self.combined_in, &counts.combined_in);
-        add_each(&mut self.acts_of, &counts.acts_of);
+    }
+
+    /// Events come to the sums, each at once to its own: most sums have none in a cycle.
+    fn add_events(&mut self, events: &[Event])
+        requires few { length events.now < 2 ^ 32 }
+        requires room { CanTake (2 ^ 32) self.old }
+        ensures { AreWithEvents events.now self.old self.new }
+    {
+        for event in events {
+            self.add(event);
+        }
+    }
+
+    /// One event more.
+    fn add(&mut self, event: &Event)
+        requires { CanTake 1 self.old }
+        ensures issued { self.new.issued ≡ self.old.issued + weight (is_issue event.now) }
+        ensures answered { self.new.answered ≡ self.old.answered + weight (is_delivery event.now) }
+        ensures acts { self.new.acts ≡ self.old.acts + weight (is_act event.now) }
+        ensures combined { self.new.combined ≡
+            self.old.combined + weight (is_combination event.now) }
+        ensures faults { self.new.faults ≡ self.old.faults }
+        ensures combined_in { (s : ℕ) → s < 6 → slice_index self.new.combined_in s ≡
+            slice_index self.old.combined_in s + weight (is_combination_in s event.now) }
+        ensures acts_of { (k : ℕ) → k < 64 → slice_index self.new.acts_of k ≡
+            slice_index self.old.acts_of k + weight (is_act_of k event.now) }
+    {
+        match *event {
+            Event::Delivered(_) => self.answered += 1,
+            Event::Served { module, .. } => {
+                self.acts += 1;
+                count_at(&mut self.acts_of, module);
+            }
+            Event::Combined { stage, .. } => {
+                self.combined += 1;
+                count_at(&mut self.combined_in, stage);
+            }
+            Event::Issued { .. } => self.issued += 1,
+        }
     }
 }

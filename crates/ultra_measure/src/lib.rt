@@ -10,4 +10,5 @@ mod queues;
 mod registers;
 mod window;
 
+pub use columns::measure_names;
 pub use measuring::{Layout, measure};

@@ -9,9 +9,9 @@ ghost use Rattle.ultra_trace_alone.specs.declared.fault.RunFault.TheVariants.{No
 ghost use Rattle.ultra_trace_alone.specs.Faults.{sink_faults};
 ghost use Rattle.ultra_measure.specs.Rows.{row_text};
 ghost use Rattle.ultra_measure.specs.Running.{AreAfter, IsOn, IsWindowRun};
-ghost use Rattle.ultra_measure.specs.Texts.{end_if, HasWindows, measured, names_line, window_of, window_count};
+ghost use Rattle.ultra_measure.specs.Texts.{end_if, HasWindows, measured, window_of, window_count};
 
-use crate::columns::{Form, put_row};
+use crate::columns::{Form, measure_names, put_row};
 use crate::window::Window;
 use std::alloc::Global;
 use ultra_block::Blocks;
@@ -27,16 +27,27 @@ use ultra_trace_alone::RunFault;
 pub enum Layout {
     /// Those of the whole run, a line for each that has a value.
     Lines,
-    /// A table: a line with all names, then one with all values for each window of `every` cycles. The last window may be shorter.
+    /// A table: a line with all names, then one with all values for each window of `every` cycles.
+    /// The last window may be shorter.
     Table {
+        /// How many cycles a window has, at least 1.
+        every: u32,
+    },
+    /// The rows of such a table alone, each with the number of a job in front of it.
+    JobRows {
+        /// The number of the job.
+        job: u64,
         /// How many cycles a window has, at least 1.
         every: u32,
     },
 }
 
-/// Runs a program on a machine of these settings in the caller's thread, and writes the measures of the run to the sink; after a fault the sink has taken a prefix of them. What it holds doesn't grow with the number of cycles.
+/// Runs a program on a machine of these settings in the caller's thread, and writes the measures of
+/// the run to the sink; after a fault the sink has taken a prefix of them. What it holds doesn't
+/// grow with the number of cycles.
 ///
-/// `Write` says that the sink failed, and `NoMemory` that memory was refused; it is asked for only before the first byte is written. `NoThread` is never answered.
+/// `Write` says that the sink failed, and `NoMemory` that memory was refused; it is asked for only
+/// before the first byte is written. `NoThread` is never answered.
 pub fn measure<S: Sink>(
     alloc: Global,
     config: &Config,
@@ -45,10 +56,13 @@ pub fn measure<S: Sink>(
     sink: &mut S,
 ) -> Result<(), RunFault>
     requires { HasWindows layout }
-    ensures ok { OnOk result (S.taken sink.new ≡ S.taken sink.old ++ measured config.now program.now layout) }
+    ensures ok { OnOk result
+        (S.taken sink.new ≡ S.taken sink.old ++ measured config.now program.now layout) }
     ensures still { OnOk result (S.failures sink.new ≡ S.failures sink.old) }
-    ensures err { OnErr result (TakesPrefix (measured config.now program.now layout) (S.taken sink.old) (S.taken sink.new)) }
-    ensures counted { IfErr result (λ e. S.failures sink.new ≡ S.failures sink.old + sink_faults e) }
+    ensures err { OnErr result (TakesPrefix (measured config.now program.now layout)
+        (S.taken sink.old) (S.taken sink.new)) }
+    ensures counted { IfErr result
+        (λ e. S.failures sink.new ≡ S.failures sink.old + sink_faults e) }
     ensures alone { IfErr result (λ e. e ≢ NoThread) }
     ensures memory_first { IfErr result (λ e. e ≡ NoMemory → S.taken sink.new ≡ S.taken sink.old) }
 {
@@ -58,7 +72,8 @@ pub fn measure<S: Sink>(
     Ok(())
 }
 
-/// Runs a machine from its start, and writes the measures of the run to a sink. After a fault the sink has taken a prefix of them.
+/// Runs a machine from its start, and writes the measures of the run to a sink. After a fault the
+/// sink has taken a prefix of them.
 fn write_measures<S: Sink>(
     blocks: &mut Blocks,
     table: &mut OpenTable,
@@ -67,9 +82,12 @@ fn write_measures<S: Sink>(
 ) -> Result<(), SinkFault>
     requires windows { HasWindows layout }
     requires start { AreAfter blocks.old.config blocks.old.program 0 blocks.old table.old }
-    ensures ok { OnOk result (S.taken sink.new ≡ S.taken sink.old ++ measured blocks.old.config blocks.old.program layout) }
+    ensures ok { OnOk result (S.taken sink.new ≡
+        S.taken sink.old ++ measured blocks.old.config blocks.old.program layout) }
     ensures still { OnOk result (S.failures sink.new ≡ S.failures sink.old) }
-    ensures err { OnErr result (TakesPrefix (measured blocks.old.config blocks.old.program layout) (S.taken sink.old) (S.taken sink.new)) }
+    ensures err { OnErr result
+        (TakesPrefix (measured blocks.old.config blocks.old.program layout) (S.taken sink.old)
+        (S.taken sink.new)) }
     ensures counted { OnErr result (S.failures sink.new ≡ S.failures sink.old + 1) }
 {
     let mut buffer = TextBuffer::new(sink);
@@ -77,7 +95,8 @@ fn write_measures<S: Sink>(
     buffer.finish()
 }
 
-/// Runs a machine from its start, and writes the measures of the run. It ends early where the sink fails.
+/// Runs a machine from its start, and writes the measures of the run. It ends early where the sink
+/// fails.
 fn put_measures<S: Sink>(
     buffer: &mut TextBuffer<'_, S>,
     blocks: &mut Blocks,
@@ -86,30 +105,25 @@ fn put_measures<S: Sink>(
 )
     requires windows { HasWindows layout }
     requires start { AreAfter blocks.old.config blocks.old.program 0 blocks.old table.old }
-    ensures { Writes S.taken S.failures (measured blocks.old.config blocks.old.program layout) buffer.old buffer.new }
+    ensures { Writes S.taken S.failures (measured blocks.old.config blocks.old.program layout)
+        buffer.old buffer.new }
 {
     // for the prover: a run has at most `MOST_CYCLES` cycles
     let _cycles = blocks.config().cycles();
     match layout {
         Layout::Lines => put_windows(buffer, blocks, table, Form::Lines, MOST_CYCLES),
         Layout::Table { every } => {
-            put_names(buffer, blocks);
+            buffer.put(measure_names());
             put_windows(buffer, blocks, table, Form::Values, every);
+        }
+        Layout::JobRows { job, every } => {
+            put_windows(buffer, blocks, table, Form::JobValues(job), every);
         }
     }
 }
 
-/// Writes the names of all measures, before the first cycle.
-fn put_names<S: Sink>(buffer: &mut TextBuffer<'_, S>, blocks: &Blocks)
-    ensures { (e : ℕ) → Writes S.taken S.failures (names_line (window_of blocks.now.config blocks.now.program e 0)) buffer.old buffer.new }
-{
-    // for the prover: a run has a cycle
-    let _cycles = blocks.config().cycles();
-    let window = Window::new(0);
-    put_row(buffer, Form::Names, blocks, &window, 0, None);
-}
-
-/// Runs a machine from its start to the end of its run, and writes the measures of each window of `every` cycles. It ends early where the sink fails.
+/// Runs a machine from its start to the end of its run, and writes the measures of each window of
+/// `every` cycles. It ends early where the sink fails.
 fn put_windows<S: Sink>(
     buffer: &mut TextBuffer<'_, S>,
     blocks: &mut Blocks,
@@ -119,7 +133,10 @@ fn put_windows<S: Sink>(
 )
     requires some { 1 ≤ every }
     requires start { AreAfter blocks.old.config blocks.old.program 0 blocks.old table.old }
-    ensures { Writes S.taken S.failures (by_number (window_count blocks.old.config blocks.old.program every) (λ k. row_text form (window_of blocks.old.config blocks.old.program every k))) buffer.old buffer.new }
+    ensures { Writes S.taken S.failures
+        (by_number (window_count blocks.old.config blocks.old.program every)
+        (λ k. row_text form (window_of blocks.old.config blocks.old.program every k))) buffer.old
+        buffer.new }
 {
     let most = blocks.config().cycles();
     let mut from = 0;
@@ -151,7 +168,8 @@ pub(crate) struct WindowRun {
 fn run_window(blocks: &mut Blocks, table: &mut OpenTable, from: u32, every: u32) -> WindowRun
     requires some { 1 ≤ every }
     requires start { IsOn blocks.old.config blocks.old.program from blocks.old table.old }
-    ensures { IsWindowRun blocks.old.config blocks.old.program from every blocks.new table.new result }
+    ensures { IsWindowRun blocks.old.config blocks.old.program from every blocks.new table.new
+        result }
 {
     let most = blocks.config().cycles();
     let end = from + every.min(most - from);
@@ -172,7 +190,8 @@ fn run_window(blocks: &mut Blocks, table: &mut OpenTable, from: u32, every: u32)
     }
 }
 
-/// How a run ended, if it did after the last cycle: whether the machine is quiet. `last` says whether the settings allow no more cycles.
+/// How a run ended, if it did after the last cycle: whether the machine is quiet. `last` says
+/// whether the settings allow no more cycles.
 fn end_of(blocks: &Blocks, last: bool) -> Option<bool>
     ensures { result ≡ end_if (is_quiet blocks.now.machine) last }
 {

@@ -12,18 +12,20 @@ use ultra_holders::switches_of;
 use ultra_route::Net;
 use ultra_topology::UnitSet;
 
-/// How much all queues, or wait buffers, of a stage hold of a kind, the most that one holds, and how many are full.
+/// How much all queues, or wait buffers, of a stage hold of a kind, the most that one holds, and
+/// how many wait buffers are full.
 #[derive(Clone, Copy, Drop)]
 pub(crate) struct Depth {
     /// All together.
     pub(crate) sum: u32,
     /// The most.
     pub(crate) most: u32,
-    /// Those that are full.
+    /// The wait buffers that are full.
     pub(crate) full: u32,
 }
 
 /// How much a stage holds of a kind. `holders` are the units that hold it.
+#[inline(always)]
 pub(crate) fn depth_of_stage<const SMALL: bool>(
     blocks: &Blocks,
     held: Held,
@@ -33,9 +35,12 @@ pub(crate) fn depth_of_stage<const SMALL: bool>(
     requires stage { stage < blocks.now.config.stages }
     requires small { SMALL ≡ true → IsSmall blocks.now.config.stages }
     requires holders { AreUnitsWith blocks.now held holders.now }
-    ensures sum { result.sum ≡ total (size blocks.now.config) (held_at held stage blocks.now.machine) }
-    ensures most { result.most ≡ greatest (size blocks.now.config) (held_at held stage blocks.now.machine) }
-    ensures full { result.full ≡ total (size blocks.now.config) (full_at blocks.now.config held stage blocks.now.machine) }
+    ensures sum { result.sum ≡
+        total (size blocks.now.config) (held_at held stage blocks.now.machine) }
+    ensures most { result.most ≡
+        greatest (size blocks.now.config) (held_at held stage blocks.now.machine) }
+    ensures full { result.full ≡
+        total (size blocks.now.config) (full_at blocks.now.config held stage blocks.now.machine) }
 {
     let net = net_of(blocks);
     let places = places_of(blocks, held);
@@ -52,13 +57,18 @@ pub(crate) fn depth_of_stage<const SMALL: bool>(
 }
 
 /// The same of both ports of a switch.
+#[inline(always)]
 fn depth_of_switch(blocks: &Blocks, held: Held, places: u32, stage: u32, switch: u32) -> Depth
     requires stage { stage < blocks.now.config.stages }
     requires switch { switch < 2 ^ (blocks.now.config.stages - 1) }
     requires places { places ≡ places_for blocks.now.config held }
-    ensures sum { result.sum ≡ held_at held stage blocks.now.machine (2 * switch) + held_at held stage blocks.now.machine (2 * switch + 1) }
-    ensures most { result.most ≡ max (held_at held stage blocks.now.machine (2 * switch)) (held_at held stage blocks.now.machine (2 * switch + 1)) }
-    ensures full { result.full ≡ full_at blocks.now.config held stage blocks.now.machine (2 * switch) + full_at blocks.now.config held stage blocks.now.machine (2 * switch + 1) }
+    ensures sum { result.sum ≡ held_at held stage blocks.now.machine (2 * switch) +
+        held_at held stage blocks.now.machine (2 * switch + 1) }
+    ensures most { result.most ≡ max (held_at held stage blocks.now.machine (2 * switch))
+        (held_at held stage blocks.now.machine (2 * switch + 1)) }
+    ensures full { result.full ≡
+        full_at blocks.now.config held stage blocks.now.machine (2 * switch) +
+        full_at blocks.now.config held stage blocks.now.machine (2 * switch + 1) }
     ensures few { (result.sum ≤ 128) × (result.full ≤ 2) }
 {
     let _few = net_of(blocks);
@@ -72,6 +82,7 @@ fn depth_of_switch(blocks: &Blocks, held: Held, places: u32, stage: u32, switch:
 }
 
 /// 1 where all places are taken, and else 0. What has no place is never full.
+#[inline(always)]
 fn count_if_full(places: u32, held: u32) -> u32
     ensures value { result ≡ is_full places held }
     ensures few { result ≤ 1 }
@@ -80,6 +91,7 @@ fn count_if_full(places: u32, held: u32) -> u32
 }
 
 /// How much the queue, or the wait buffer, at a position of a stage holds of a kind.
+#[inline(always)]
 fn held_at_position(blocks: &Blocks, held: Held, stage: u32, position: u32) -> u32
     requires stage { stage < blocks.now.config.stages }
     requires position { position < 2 ^ blocks.now.config.stages }
@@ -96,14 +108,15 @@ fn held_at_position(blocks: &Blocks, held: Held, stage: u32, position: u32) -> u
     count as u32
 }
 
-/// How many places there are of a kind.
+/// How many places a queue, or a wait buffer, has, where it is counted once all are taken: only
+/// wait buffers are, and the others have none here.
+#[inline(always)]
 fn places_of(blocks: &Blocks, held: Held) -> u32
     ensures { result ≡ places_for blocks.now.config held }
 {
     match held {
-        Held::Request => blocks.config().request_places(),
         Held::Record => blocks.config().wait_places(),
-        Held::Reply => blocks.config().reply_places(),
+        Held::Request | Held::Reply => 0,
     }
 }
 
@@ -112,6 +125,7 @@ pub(crate) fn net_of(blocks: &Blocks) -> Net
     ensures value { result ≡ blocks.now.config.stages }
     ensures even { 2 ^ blocks.now.config.stages ≡ 2 * 2 ^ (blocks.now.config.stages - 1) }
     ensures few { 2 ^ (blocks.now.config.stages - 1) ≤ 32 }
+    ensures few_stages { blocks.now.config.stages ≤ 6 }
 {
     let net = blocks.config().net();
     let _even = net.size();

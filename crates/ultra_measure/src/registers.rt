@@ -14,6 +14,7 @@ use ultra_route::Net;
 use ultra_topology::{UnitSet, is_small};
 
 /// How many modules hold a request that waits to be served.
+#[inline(always)]
 pub(crate) fn inputs_now(blocks: &Blocks) -> u32
     requires { blocks.now.count ≡ 1 }
     ensures value { result ≡ total (size blocks.now.config) (waiting_in blocks.now.machine) }
@@ -23,6 +24,7 @@ pub(crate) fn inputs_now(blocks: &Blocks) -> u32
 }
 
 /// How many modules hold a reply that waits to leave.
+#[inline(always)]
 pub(crate) fn outputs_now(blocks: &Blocks) -> u32
     requires { blocks.now.count ≡ 1 }
     ensures value { result ≡ total (size blocks.now.config) (waiting_out blocks.now.machine) }
@@ -31,10 +33,13 @@ pub(crate) fn outputs_now(blocks: &Blocks) -> u32
     modules_that_hold(blocks, Held::Reply)
 }
 
-/// How many modules hold something of a kind. Small machines use a specialised copy.
+/// How many modules hold something of a kind. Small machines use a specialised copy, and so does
+/// each kind.
+#[inline(always)]
 fn modules_that_hold(blocks: &Blocks, held: Held) -> u32
     requires { blocks.now.count ≡ 1 }
-    ensures value { result ≡ total (size blocks.now.config) (held_in_module held blocks.now.machine) }
+    ensures value { result ≡
+        total (size blocks.now.config) (held_in_module held blocks.now.machine) }
     ensures few { result ≤ 64 }
 {
     let net = net_of(blocks);
@@ -47,6 +52,7 @@ fn modules_that_hold(blocks: &Blocks, held: Held) -> u32
 }
 
 /// How many modules are in a set.
+#[inline(always)]
 fn count_modules<const SMALL: bool>(net: Net, units: &UnitSet) -> u32
     requires { SMALL ≡ true → IsSmall net }
     ensures value { result ≡ length (numbers_in units.now (module_number net 0) (2 ^ net)) }

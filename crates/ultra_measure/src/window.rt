@@ -59,17 +59,21 @@ impl Window {
         }
     }
 
-    /// A cycle was made: the machine is now as after it. `table` has the open requests, which go on with it.
+    /// A cycle was made: the machine is now as after it. `table` has the open requests, which go on
+    /// with it.
     pub(crate) fn note_cycle(&mut self, table: &mut OpenTable, blocks: &Blocks, cycle: u32)
         requires one { blocks.now.count ≡ 1 }
         requires run { IsAfterCycle cycle blocks.now }
         requires order { self.old.from ≤ cycle }
         requires early { cycle ≤ 2 ^ 20 }
         requires kept { IsKept blocks.now.config blocks.now.program self.old.from cycle self.old }
-        requires rows { table.old.rows.items ≡ open_rows blocks.now.config blocks.now.program cycle }
+        requires rows { table.old.rows.items ≡
+            open_rows blocks.now.config blocks.now.program cycle }
         ensures from { self.new.from ≡ self.old.from }
-        ensures kept { IsKept blocks.now.config blocks.now.program self.old.from (cycle + 1) self.new }
-        ensures rows { table.new.rows.items ≡ open_rows blocks.now.config blocks.now.program (cycle + 1) }
+        ensures kept { IsKept blocks.now.config blocks.now.program self.old.from (cycle + 1)
+            self.new }
+        ensures rows { table.new.rows.items ≡
+            open_rows blocks.now.config blocks.now.program (cycle + 1) }
     {
         // for the prover: how many events a cycle has
         law_of_few_events(blocks.config());
@@ -87,7 +91,8 @@ impl Window {
     }
 }
 
-/// The latencies of a cycle's deliveries come to those of the window, and the open requests go on with the cycle.
+/// The latencies of a cycle's deliveries come to those of the window, and the open requests go on
+/// with the cycle.
 fn note_latencies(
     latencies: &mut Latencies,
     table: &mut OpenTable,
@@ -101,8 +106,10 @@ fn note_latencies(
     requires early { cycle ≤ 2 ^ 20 }
     requires kept { AreLatencies blocks.now.config blocks.now.program from cycle latencies.old }
     requires rows { table.old.rows.items ≡ open_rows blocks.now.config blocks.now.program cycle }
-    ensures kept { AreLatencies blocks.now.config blocks.now.program from (cycle + 1) latencies.new }
-    ensures rows { table.new.rows.items ≡ open_rows blocks.now.config blocks.now.program (cycle + 1) }
+    ensures kept { AreLatencies blocks.now.config blocks.now.program from (cycle + 1)
+        latencies.new }
+    ensures rows { table.new.rows.items ≡
+        open_rows blocks.now.config blocks.now.program (cycle + 1) }
 {
     // for the prover: what the events make of the open requests, and the latencies that they show
     law_of_open_requests(blocks.config());

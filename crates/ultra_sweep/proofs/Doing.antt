@@ -27,12 +27,12 @@ done_more ns i v s u w done drew did =
     rw (sym drawn, sym finished, sym reads, sym spent, sym held, sym tries, sym limit, sym bound, sym places) refl
 
 -- a result of the job at a place is one of these jobs
-pub among : (jobs : List Job) (i : ℕ) (job : Job) (r : JobResult) → i < length jobs → job ≡ get_or jobs i job → IsResultOf i job r → IsResultAmong jobs r
-among jobs i job r below at its =
+pub among : (text : ℕ → Job → List ℕ) (jobs : List Job) (i : ℕ) (job : Job) (r : JobResult) → i < length jobs → job ≡ get_or jobs i job → IsResultOf text i job r → IsResultAmong text jobs r
+among text jobs i job r below at its =
     let here : slice_get jobs r.number ≡ Some job = ap (slice_get jobs) its.number ∙ slice_get_read jobs (length jobs) i job refl below at in
     record {
       named = subst (λ k. k < length jobs) (sym its.number) below;
-      outcome = subst (λ o. IfSome o (λ j. IsOutcomeOf j r.outcome)) (sym here) its.outcome;
+      outcome = subst (λ o. IfSome o (λ j. IsOutcomeOf (text r.number j) r.outcome)) (sym here) (subst (λ k. IsOutcomeOf (text k job) r.outcome) (sym its.number) its.outcome);
     }
 
 -- a number that was drawn names a job that no result names yet, so there is room for one result more

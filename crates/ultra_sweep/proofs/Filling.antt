@@ -1,9 +1,11 @@
 -- texts that go into their places, one after the other
-use Rattle.std.proofs.Common.{◌≡◌, ◌≢◌, ℕ, zero, suc, ◌<◌, ◌≤◌, List, [], ◌∷◌, ◌++◌, false, length, refl, sym, ap, subst, ◌∙◌, arith, map, take, drop, get_or, set, Vec, Global, ⊎_elim}
+use Rattle.std.proofs.Common.{◌≡◌, ◌≢◌, ℕ, zero, suc, ◌+◌, ◌<◌, ◌≤◌, List, [], ◌∷◌, ◌++◌, false, length, refl, sym, ap, subst, ◌∙◌, arith, map, take, drop, get_or, set, Vec, Global, ⊎_elim}
 use Rattle.std.specs.Prelude.{Option, Some, None, IsSome, is_some, IfSome, All, replicate, slice_get}
 use Rattle.std.proofs.lemmas.Bool.{cases_eq}
 use Rattle.std.proofs.lemmas.List.{get_or-set_same, get_or-set_other, length-set, get_or-replicate, length-replicate, length-map, append-nil, drop_all, take_all, ext_get_or}
 use Rattle.std.proofs.lemmas.List.Elements.{All-append, All-contains, Contains-append_left, Contains-append_right}
+use Rattle.std.specs.List.{enumerate_from}
+use Rattle.std.proofs.lemmas.List.FromFn.{length-enumerate_from}
 use Rattle.ultra_board.specs.View.{one_if, times, times_below}
 use native.Mathlib.Decide.{dec_le}
 use Rattle.ultra_sweep.specs.declared.job.Job.{Job}
@@ -12,7 +14,7 @@ use Rattle.ultra_sweep.specs.declared.job.JobOutcome.{JobOutcome}
 use Rattle.ultra_sweep.specs.declared.job.JobOutcome.TheVariants as outcome
 use Rattle.ultra_sweep.specs.declared.gathering.GatherFault.{GatherFault}
 use Rattle.ultra_sweep.specs.declared.gathering.GatherFault.TheVariants.{Double, Stranger, Missing, NoMemory}
-use Rattle.ultra_sweep.specs.Job.{job_numbers, text_in, trace_of, IsOutcomeOf, IsResultAmong}
+use Rattle.ultra_sweep.specs.Job.{job_numbers, text_in, texts_of, IsOutcomeOf, IsResultAmong}
 use Rattle.ultra_sweep.specs.Gather.{HasText, AreGathered, AreSound, IsFirstMissingJob, ExplainsGatherFault, ExplainsEnd}
 use Rattle.ultra_sweep.specs.Places.{TextPlaces, text_in_place, IsPut, ExplainsPutFault, IsFirstEmpty}
 use Rattle.ultra_sweep.proofs.Numbers.{one_if-case, times_below-in, times_below-out, times-numbers_push, within-push}
@@ -198,22 +200,23 @@ given_back xs ys n same all =
 pub all_seen : (seen rest all : List JobResult) → seen ++ rest ≡ all → rest ≡ [] → seen ≡ all
 all_seen seen rest all e none = sym (append-nil seen) ∙ (ap (λ zs. seen ++ zs) (sym none) ∙ e)
 
--- where all results are of these jobs, the texts are the jobs' traces
-outcome_text : (job : Job) (o : JobOutcome) (t : List ℕ) → IsOutcomeOf job o → text_in o ≡ Some t → t ≡ trace_of job
-outcome_text job (outcome.Trace text) t is e = let same : text.items ≡ t = cc in sym same ∙ is
-outcome_text job outcome.NoMemory t is e = absurd cc
+-- where all results are of these jobs, the texts are those that the jobs give
+outcome_text : (given : List ℕ) (o : JobOutcome) (t : List ℕ) → IsOutcomeOf given o → text_in o ≡ Some t → t ≡ given
+outcome_text given (outcome.Text text) t is e = let same : text.items ≡ t = cc in sym same ∙ is
+outcome_text given outcome.NoMemory t is e = absurd cc
 
-trace_at : (jobs : List Job) (i : ℕ) (o : JobOutcome) (t : List ℕ) → i < length jobs → IfSome (slice_get jobs i) (λ job. IsOutcomeOf job o) → text_in o ≡ Some t → t ≡ get_or (map trace_of jobs) i []
-trace_at [] i o t lt is e = absurd (omega arith)
-trace_at (job ∷ jobs) zero o t lt is e = outcome_text job o t is e
-trace_at (job ∷ jobs) (suc i) o t lt is e = trace_at jobs i o t (omega arith) is e
+module _ (text : ℕ → Job → List ℕ) where
+  text_at : (jobs : List Job) (i n k : ℕ) (o : JobOutcome) (t : List ℕ) → k ≡ n + i → i < length jobs → IfSome (slice_get jobs i) (λ job. IsOutcomeOf (text k job) o) → text_in o ≡ Some t → t ≡ get_or (map (λ (it : ℕ × Job). text it.0 it.1) (enumerate_from n jobs)) i []
+  text_at [] i n k o t at lt is e = absurd (omega arith)
+  text_at (job ∷ jobs) zero n k o t at lt is e = outcome_text (text n job) o t (subst (λ j. IsOutcomeOf (text j job) o) (omega arith) is) e
+  text_at (job ∷ jobs) (suc i) n k o t at lt is e = text_at jobs i (n + 1) k o t (omega arith) (omega arith) is e
 
-pub traces : (jobs : List Job) (n : ℕ) (rs : List JobResult) (ts : List (List ℕ)) → AreGathered n rs ts → length jobs ≡ n → All (IsResultAmong jobs) rs → ts ≡ map trace_of jobs
-traces jobs n rs ts h long all = ext_get_or [] ts (map trace_of jobs) (h.count ∙ (sym long ∙ sym (length-map jobs trace_of))) (λ i lt. one i (let c = h.count in omega arith))
-  where
-    one : (i : ℕ) → i < n → get_or ts i [] ≡ get_or (map trace_of jobs) i []
-    one i lt =
-        let has = h.texts i lt in
-        let its = All-contains (IsResultAmong jobs) rs has.result all has.there in
-        let at : IfSome (slice_get jobs i) (λ job. IsOutcomeOf job has.result.outcome) = subst (λ k. IfSome (slice_get jobs k) (λ job. IsOutcomeOf job has.result.outcome)) has.number its.outcome in
-        trace_at jobs i has.result.outcome (get_or ts i []) (omega arith) at has.text
+  pub given_texts : (jobs : List Job) (n : ℕ) (rs : List JobResult) (ts : List (List ℕ)) → AreGathered n rs ts → length jobs ≡ n → All (IsResultAmong text jobs) rs → ts ≡ texts_of text jobs
+  given_texts jobs n rs ts h long all = ext_get_or [] ts (texts_of text jobs) (h.count ∙ (sym long ∙ sym (length-map (enumerate_from 0 jobs) (λ (it : ℕ × Job). text it.0 it.1) ∙ length-enumerate_from 0 jobs))) (λ i lt. one i (let c = h.count in omega arith))
+    where
+      one : (i : ℕ) → i < n → get_or ts i [] ≡ get_or (texts_of text jobs) i []
+      one i lt =
+          let has = h.texts i lt in
+          let its = All-contains (IsResultAmong text jobs) rs has.result all has.there in
+          let at : IfSome (slice_get jobs i) (λ job. IsOutcomeOf (text i job) has.result.outcome) = subst (λ k. IfSome (slice_get jobs k) (λ job. IsOutcomeOf (text k job) has.result.outcome)) has.number its.outcome in
+          text_at jobs i 0 i has.result.outcome (get_or ts i []) (omega arith) (omega arith) at has.text

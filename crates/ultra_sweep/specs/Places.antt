@@ -18,7 +18,7 @@ pub record IsPut (it : JobResult) (old new : TextPlaces) : Type 0 where
   pub below : it.number < length old
   pub empty : text_in_place old it.number ≡ None
   pub text : Vec ℕ Global
-  pub outcome : it.outcome ≡ outcome.Trace text
+  pub outcome : it.outcome ≡ outcome.Text text
   pub full : new ≡ slice_set old it.number (Some text)
 
 -- why it didn't

@@ -36,6 +36,7 @@ HasDoneAll ns v w =
 
 -- the jobs that were drawn in the call are those that its results name, in their order. Each is
 -- finished, and none is left to draw
-pub record HasWorked (jobs : List Job) (v w : View) (rs : List JobResult) : Type 0 where
+pub record HasWorked (text : ℕ → Job → List ℕ) (jobs : List Job) (v w : View)
+    (rs : List JobResult) : Type 0 where
   pub done : HasDoneAll (job_numbers rs) (record v { spent = true }) w
-  pub results : All (IsResultAmong jobs) rs
+  pub results : All (IsResultAmong text jobs) rs

@@ -1,8 +1,8 @@
 //! What all threads brought back, put together.
 
-ghost use Rattle.std.specs.Prelude.{◌≡◌, ◌≤◌, [], IfOk, IfErr, OnOk, All, List, length, map, replicate, true, vec_len, vec_capacity};
+ghost use Rattle.std.specs.Prelude.{◌≡◌, ◌≤◌, ℕ, [], IfOk, IfErr, OnOk, All, List, length, map, replicate, true, vec_len, vec_capacity};
 ghost use Rattle.ultra_sweep.specs.declared.job.Job.{Job};
-ghost use Rattle.ultra_sweep.specs.Job.{job_numbers, trace_of, IsResultAmong};
+ghost use Rattle.ultra_sweep.specs.Job.{job_numbers, texts_of, IsResultAmong};
 ghost use Rattle.ultra_sweep.specs.Gather.{AreGathered, ExplainsGatherFault, ExplainsEnd};
 ghost use Rattle.ultra_sweep.specs.Places.{IsPut, ExplainsPutFault, IsFirstEmpty};
 
@@ -34,7 +34,7 @@ impl From<AllocError> for GatherFault {
     }
 }
 
-/// The traces of all jobs, in the order of their numbers. Contracts see the list of them.
+/// The texts of all jobs, in the order of their numbers. Contracts see the list of them.
 #[derive(Drop)]
 pub struct Gathered {
     pub(crate) texts: Vec<Vec<u8>>,
@@ -57,8 +57,8 @@ impl Model for Gathered {
 pub fn gather(alloc: Global, count: u64, results: Vec<JobResult>) -> Result<Gathered, GatherFault>
     ensures ok { IfOk result (λ g. AreGathered count results.items g) }
     ensures err { IfErr result (ExplainsGatherFault count results.items) }
-    ensures traces { (jobs : List Job) → length jobs ≡ count →
-        All (IsResultAmong jobs) results.items → IfOk result (λ g. g ≡ map trace_of jobs) }
+    ensures texts { (text : ℕ → Job → List ℕ) (jobs : List Job) → length jobs ≡ count →
+        All (IsResultAmong text jobs) results.items → IfOk result (λ g. g ≡ texts_of text jobs) }
 {
     let places = empty_places(alloc, count as usize)?;
     let texts = Vec::with_capacity(alloc, count as usize)?;
@@ -81,8 +81,8 @@ pub fn close_and_gather(
     requires count { seat.view.limit ≡ count }
     requires drawn { seat.view.drawn ≡ job_numbers results.items }
     ensures ok { IfOk result (λ g. AreGathered count results.items g) }
-    ensures traces { (jobs : List Job) → length jobs ≡ count →
-        All (IsResultAmong jobs) results.items → IfOk result (λ g. g ≡ map trace_of jobs) }
+    ensures texts { (text : ℕ → Job → List ℕ) (jobs : List Job) → length jobs ≡ count →
+        All (IsResultAmong text jobs) results.items → IfOk result (λ g. g ≡ texts_of text jobs) }
 {
     let _totals = board.close(seat);
     match gather(alloc, count, results) {
@@ -127,7 +127,7 @@ fn empty_places(alloc: Global, count: usize) -> Result<Vec<Option<Vec<u8>>>, All
     Ok(places)
 }
 
-/// Puts the trace of a job into the job's place.
+/// Puts the text of a job into the job's place.
 fn put(places: &mut [Option<Vec<u8>>], it: JobResult) -> Result<(), GatherFault>
     ensures ok { OnOk result (IsPut it places.old places.new) }
     ensures err { IfErr result (ExplainsPutFault it places.old) }
@@ -141,7 +141,7 @@ fn put(places: &mut [Option<Vec<u8>>], it: JobResult) -> Result<(), GatherFault>
         return Err(GatherFault::Double(number));
     }
     match outcome {
-        JobOutcome::Trace(text) => {
+        JobOutcome::Text(text) => {
             *place = Some(text);
             Ok(())
         }

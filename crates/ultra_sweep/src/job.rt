@@ -1,6 +1,7 @@
 //! Jobs, what becomes of them, and who runs them.
 
-ghost use Rattle.std.specs.Prelude.{◌<◌, Contains};
+ghost use Rattle.std.specs.Prelude.{◌<◌, ℕ, List, Contains};
+ghost use Rattle.ultra_sweep.specs.declared.job.Job.{Job as JobOf};
 ghost use Rattle.ultra_sweep.specs.Job.{IsResultOf};
 
 use std::alloc::Global;
@@ -22,8 +23,8 @@ pub struct Job {
 /// What became of a job.
 #[derive(Drop)]
 pub enum JobOutcome {
-    /// The trace of its run.
-    Trace(Vec<u8>),
+    /// The text that it gives, as the trace of its run.
+    Text(Vec<u8>),
     /// Memory was refused, to its run or to its text.
     NoMemory,
 }
@@ -39,11 +40,14 @@ pub struct JobResult {
 
 /// Who runs the jobs that are drawn.
 pub trait JobGate {
+    /// The text that a job gives, by its number.
+    ghost text: { Self → ℕ → JobOf → List ℕ };
+
     /// Runs a job, which the seat has drawn and hasn't finished, under the pass that the seat
     /// holds. It may wait, for another job too.
     fn run<R: Wait>(&self, rt: &R, alloc: Global, seat: &Seat, number: u64, job: &Job) -> JobResult
         requires pass { 0 < seat.now.view.held }
         requires drawn { Contains seat.now.view.drawn number }
         requires unfinished { ¬ Contains seat.now.view.finished number }
-        ensures { IsResultOf number job.now result };
+        ensures { IsResultOf (text self.now) number job.now result };
 }

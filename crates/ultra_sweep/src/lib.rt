@@ -3,8 +3,9 @@
 //!
 //! A job is a run of a machine. A file of jobs names the settings and the program of each
 //! ([`jobs_from`], [`settings_from`]). Threads draw the jobs from a board (`ultra_board`), each with
-//! a seat of its own, and run each one under a pass by a [`JobGate`]. What the threads bring back is
-//! put together by [`gather`] and written by [`report`].
+//! a seat of its own, and run each one under a pass by a [`JobGate`], which says what text a job
+//! gives: its trace, or the rows of its measures. What the threads bring back is put together by
+//! [`gather`] and written by [`report`] or by [`write_job_table`].
 #![tactic(auto)]
 
 mod gathering;
@@ -16,6 +17,6 @@ mod working;
 pub use gathering::{GatherFault, Gathered, close_and_gather, gather};
 pub use job::{Job, JobGate, JobOutcome, JobResult};
 pub use law::sweep_law;
-pub use reporting::report;
+pub use reporting::{report, write_job_table};
 pub use ultra_settings::{JobsFault, SettingsFault, jobs_from, settings_from};
 pub use working::{WorkFault, work};

@@ -36,7 +36,7 @@ pub fn work<R: Wait, G: JobGate>(
     requires jobs { seat.view.limit ≡ length jobs.now }
     ensures board { result.0.board ≡ seat.board }
     ensures ok { IfOk result.1 (λ results.
-        HasWorked jobs.now seat.view result.0.view results.items) }
+        HasWorked (G.text gate.now) jobs.now seat.view result.0.view results.items) }
     ensures err { OnErr result.1 (result.0 ≡ seat) }
 {
     let mut results = match Vec::with_capacity(alloc, jobs.len()) {
@@ -68,7 +68,7 @@ fn do_job<R: Wait, G: JobGate>(
     requires unfinished { ¬ Contains seat.old.view.finished number }
     ensures board { seat.new.board ≡ seat.old.board }
     ensures done { HasDone number seat.old.view seat.new.view }
-    ensures result { IsResultOf number job.now result }
+    ensures result { IsResultOf (G.text gate.now) number job.now result }
 {
     enter(rt, board, seat);
     let result = gate.run(rt, alloc, seat, number, job);

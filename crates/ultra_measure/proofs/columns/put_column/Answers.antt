@@ -1,16 +1,12 @@
-use Rattle.std.proofs.Common.{sym, subst}
+use Rattle.std.proofs.Common.{sym, subst, ⊎_elim}
 use Rattle.ultra_io.specs.TextBuffer.{Writes}
 use Rattle.ultra_io.proofs.Writing.{◌then◌}
 use Rattle.ultra_measure.specs.declared.columns.Form.{Form}
 use Rattle.ultra_measure.specs.Rows.{column_text, name_text, value_if}
 use Rattle.ultra_measure.proofs.columns.put_column.Goals as goal
 
-pub returns-in-Names : goal.returns-in-Names
-returns-in-Names g c =
-    let P : Form → Type 0 = λ form. Writes g.S.Sink.taken g.S.Sink.failures (column_text form (name_text c.args.name.now c.args.stage, value_if c.args.value)) c.args.buffer.now c.put_name.new.buffer in
-    subst P (sym c.in-Names.is) (c.put.ensures then c.put_name.ensures)
-
 pub returns-in-Values : goal.returns-in-Values
 returns-in-Values g c =
     let P : Form → Type 0 = λ form. Writes g.S.Sink.taken g.S.Sink.failures (column_text form (name_text c.args.name.now c.args.stage, value_if c.args.value)) c.args.buffer.now c.put_value_if.new.buffer in
-    subst P (sym c.in-Values.is) (c.put-in-Values.ensures then c.put_value_if.ensures)
+    let wrote = c.put.ensures then c.put_value_if.ensures in
+    ⊎_elim (λ is. subst P (sym is) wrote) (λ is. subst P (sym is.1) wrote) c.in-Values.is

@@ -1,5 +1,4 @@
-use Rattle.std.proofs.Common.{ℕ, List, ◌≡◌, ◌^◌, ◌<◌, ◌≤◌, ◌∙◌, ap, length, min, max, slice_index, arith}
-use Rattle.std.proofs.Math.Pow.{pow_mono}
+use Rattle.std.proofs.Common.{ℕ, List, ◌≡◌, ◌^◌, ◌∙◌, ap, length, min, max, slice_index, arith}
 use Rattle.std.specs.Prelude.{codes, sum}
 use Rattle.std.specs.List.{reduce}
 use Rattle.ultra_model.specs.Machine.{Settings, size}

@@ -1,4 +1,4 @@
-use Rattle.std.proofs.Common.{◌≡◌, ◌<◌, ◌∙◌, ap, arith, nat_lt}
+use Rattle.std.proofs.Common.{◌≡◌, ◌∙◌, ap, nat_lt}
 use Rattle.std.specs.Prelude.{codes}
 use Rattle.ultra_model.specs.Machine.{Settings, size}
 use Rattle.ultra_model.specs.Balance.{total}

@@ -1,10 +1,10 @@
-use Rattle.std.proofs.Common.{ℕ, List, ◌≤◌, ◌∙◌, sym, ap, subst, arith}
+use Rattle.std.proofs.Common.{◌∙◌, sym, ap, subst, arith}
 use Rattle.ultra_io.specs.TextBuffer.{Writes}
 use Rattle.ultra_io.proofs.Writing.{◌then◌}
 use Rattle.ultra_model.specs.Machine.{Settings}
 use Rattle.ultra_measure.specs.declared.measuring.Layout.{Layout}
 use Rattle.ultra_measure.specs.Texts.{measured}
-use Rattle.ultra_measure.proofs.Windows.{lines_are, table_is}
+use Rattle.ultra_measure.proofs.Windows.{lines_are, table_is, rows_are}
 use Rattle.ultra_measure.proofs.measuring.put_measures.Goals as goal
 
 pub returns-in-Lines : goal.returns-in-Lines
@@ -26,4 +26,13 @@ returns-in-Table g c =
     subst P (sym c.in-Table.is)
     (subst (λ text. Writes g.S.Sink.taken g.S.Sink.failures text c.args.buffer.now c.put_windows-in-Table.new.buffer)
     (table_is b.config b.program e)
-    (c.put_names.ensures e then c.put_windows-in-Table.ensures))
+    (subst (λ text. Writes g.S.Sink.taken g.S.Sink.failures text c.args.buffer.now c.put.new.self) (c.measure_names.ensures.same b.config b.program _ _) c.put.ensures then c.put_windows-in-Table.ensures))
+
+pub returns-in-JobRows : goal.returns-in-JobRows
+returns-in-JobRows g c =
+    let b = c.args.blocks.now in
+    let P : Layout → Type 0 = λ layout. Writes g.S.Sink.taken g.S.Sink.failures (measured b.config b.program layout) c.args.buffer.now c.put_windows-in-JobRows.new.buffer in
+    subst P (sym c.in-JobRows.is)
+    (subst (λ text. Writes g.S.Sink.taken g.S.Sink.failures text c.args.buffer.now c.put_windows-in-JobRows.new.buffer)
+    (rows_are b.config b.program c.in-JobRows.job c.in-JobRows.every)
+    c.put_windows-in-JobRows.ensures)

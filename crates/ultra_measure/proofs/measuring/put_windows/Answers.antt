@@ -1,5 +1,4 @@
-use Rattle.std.proofs.Common.{◌≡◌, ◌+◌, ◌*◌, ◌≤◌, ◌<◌, ◌∙◌, sym, ap, subst, arith}
-use Rattle.std.specs.Prelude.{None, IsSome}
+use Rattle.std.proofs.Common.{◌+◌, ◌∙◌, sym, ap, arith}
 use Rattle.ultra_io.proofs.Writing.{writes_nothing}
 use Rattle.ultra_model.specs.Machine.{Settings}
 use Rattle.ultra_trace_alone.proofs.Count.{busy_none}

@@ -1,4 +1,4 @@
-use Rattle.std.proofs.Common.{◌≡◌, ◌+◌, ◌<◌, ◌∙◌, length, ap, arith}
+use Rattle.std.proofs.Common.{◌∙◌, length, ap, arith}
 use Rattle.ultra_model.specs.Machine.{Machine}
 use Rattle.ultra_measure.proofs.Waiting.{latencies_go_on, places_here, rows_here, shown_here}
 use Rattle.ultra_measure.proofs.window.note_latencies.Goals as goal

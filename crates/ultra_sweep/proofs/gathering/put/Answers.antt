@@ -4,15 +4,15 @@ use Rattle.std.proofs.lemmas.List.{get_or_default}
 use Rattle.ultra_sweep.proofs.Filling.{is-empty}
 use Rattle.ultra_sweep.proofs.gathering.put.Goals as goal
 
-pub returns-in-Trace-clause-ok : goal.returns-in-Trace-clause-ok
-returns-in-Trace-clause-ok c =
+pub returns-in-Text-clause-ok : goal.returns-in-Text-clause-ok
+returns-in-Text-clause-ok c =
     let places = c.args.places.now in
     let i = c.args.it.number in
     let none = is-empty (get_or places i c.index-places-number.result) (sym c.is_some.ensures ∙ c.if-is_some.false) in
     record {
       below = omega arith;
       empty = get_or_default places i None c.index-places-number.result (omega arith) ∙ none;
-      text = c.in-Trace.text;
-      outcome = c.in-Trace.is;
+      text = c.in-Text.text;
+      outcome = c.in-Text.is;
       full = refl;
     }

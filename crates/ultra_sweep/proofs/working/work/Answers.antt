@@ -27,6 +27,7 @@ loop-number-smaller g c =
 pub loop-number-preserved : goal.loop-number-preserved
 loop-number-preserved g c =
     let so_far = c.loop-number.invariant in
+    let text = g.G.JobGate.text c.args.gate.now in
     let jobs = c.args.jobs.now in
     let rs = c.loop-number.results.items in
     let i = c.in-Some.number in
@@ -42,12 +43,12 @@ loop-number-preserved g c =
     record {
       board = c.do_job-result.ensures.board ∙ (ap (λ q. q.board) c.in-Some.ensures.number ∙ so_far.board);
       done = subst (λ ns. HasDoneAll ns v w) (sym named) (done_more (job_numbers rs) i v s c.draw.new.seat.view w so_far.done (ap (λ q. q.view) c.in-Some.ensures.number) c.do_job-result.ensures.done);
-      results = subst (All (IsResultAmong jobs)) (sym c.push_reserved.ensures.items)
-          (All-append (IsResultAmong jobs) rs (r ∷ []) so_far.results (only jobs r (among jobs i c.index-jobs-number.result r below c.index-jobs-number.is its)));
+      results = subst (All (IsResultAmong text jobs)) (sym c.push_reserved.ensures.items)
+          (All-append (IsResultAmong text jobs) rs (r ∷ []) so_far.results (only text jobs r (among text jobs i c.index-jobs-number.result r below c.index-jobs-number.is its)));
       within = λ k. subst (λ ns. times k ns ≤ times_below k (length jobs)) (sym named) (one_more (length jobs) (job_numbers rs) i so_far.within below new k);
       room = let same = c.push_reserved.ensures.capacity in let before = so_far.room in omega arith;
     }
   where
-    only : (jobs : _) (r : JobResult) → IsResultAmong jobs r → All (IsResultAmong jobs) (r ∷ [])
-    only jobs r h zero d lt = h
-    only jobs r h (suc k) d lt = absurd (omega arith)
+    only : (text : _) (jobs : _) (r : JobResult) → IsResultAmong text jobs r → All (IsResultAmong text jobs) (r ∷ [])
+    only text jobs r h zero d lt = h
+    only text jobs r h (suc k) d lt = absurd (omega arith)

@@ -9,7 +9,7 @@ abbrev pub invariant-loop-number : goal.invariant-loop-number
 invariant-loop-number g l = record {
   board : l.seat.board ≡ l.initial.seat.board;
   done : HasDoneAll (job_numbers l.results.items) l.initial.seat.view l.seat.view;
-  results : All (IsResultAmong l.jobs) l.results.items;
+  results : All (IsResultAmong (g.G.JobGate.text l.gate) l.jobs) l.results.items;
   within : (i : ℕ) → times i (job_numbers l.results.items) ≤ times_below i (length l.jobs);
   room : length l.jobs ≤ vec_capacity l.results;
 }

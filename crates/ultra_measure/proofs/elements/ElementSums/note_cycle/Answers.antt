@@ -1,4 +1,4 @@
-use Rattle.std.proofs.Common.{◌+◌, ◌<◌, ap, arith}
+use Rattle.std.proofs.Common.{◌+◌, ap, arith}
 use Rattle.ultra_model.specs.Machine.{size}
 use Rattle.ultra_model.specs.Balance.{total}
 use Rattle.ultra_measure.specs.Held.{running, stalled, opened, pending}

@@ -1,4 +1,4 @@
-use Rattle.std.proofs.Common.{◌+◌, ◌<◌, length, ap, ◌∙◌, arith}
+use Rattle.std.proofs.Common.{◌+◌, length, ap, arith}
 use Rattle.ultra_model.specs.Machine.{Machine, size}
 use Rattle.ultra_model.specs.Balance.{total}
 use Rattle.ultra_measure.specs.Held.{waiting_in, waiting_out}
