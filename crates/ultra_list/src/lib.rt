@@ -7,13 +7,15 @@ mod writing;
 
 ghost use Rattle.std.specs.Prelude.{◌≡◌, List, IfOk, IfErr};
 ghost use Rattle.ultra_serial_law.specs.declared.records.Entry.{Entry as EntryOf};
-ghost use Rattle.ultra_list.specs.SerialText.{IsListText, ListTextLaw};
+ghost use Rattle.ultra_list.specs.SerialText.{HasWords, IsListText, ListTextLaw, order_text};
+ghost use Rattle.ultra_model.specs.Words.{OfWord, GivesWord};
 ghost use Rattle.ultra_list.specs.Faults.{ExplainsListFault, IsReadAs};
 
 use line::entry_at;
 use std::alloc::{AllocFailed, Global};
-use ultra_serial_law::SerialList;
-pub use writing::{put_entries, put_entry, put_entry_line, put_reply};
+use ultra_msg::{Op, Reply};
+use ultra_serial_law::{Entry, SerialList};
+pub use writing::{put_entries, put_entry, put_entry_line, put_operation, put_reply};
 
 /// Why a text isn't read as a list.
 #[derive(Clone, Copy, PartialEq, Eq, Debug, Drop)]
@@ -58,3 +60,43 @@ pub fn read_list(alloc: Global, text: &[u8]) -> Result<SerialList, ListFault>
 pub fn list_text_law()
     ensures written { ListTextLaw }
 {}
+
+/// What is written for these entries is their text, as this function's contract: their numbers are words of 32 bits, as their types say. So [`read_list`] gives them back. The function itself does nothing.
+pub fn entries_text_law(entries: &[Entry])
+    ensures { IsListText (order_text entries.now) entries.now }
+{
+    for entry in entries {
+        // for the prover: the numbers of an entry are words of 32 bits
+        entry_words_law(*entry);
+    }
+}
+
+/// The numbers of an entry are words of 32 bits.
+fn entry_words_law(entry: Entry)
+    ensures { HasWords entry }
+{
+    operand_law(entry.op);
+    reply_law(entry.reply);
+}
+
+/// The operand of an operation is a word of 32 bits.
+fn operand_law(op: Op)
+    ensures { OfWord op }
+{
+    match op {
+        Op::Load => {}
+        Op::Store(_word) => {}
+        Op::Faa(_word) => {}
+        Op::Swap(_word) => {}
+    }
+}
+
+/// The value of a reply is a word of 32 bits.
+fn reply_law(reply: Reply)
+    ensures { GivesWord reply }
+{
+    match reply {
+        Reply::Value(_word) => {}
+        Reply::Ack => {}
+    }
+}

@@ -40,7 +40,7 @@ pub fn put_entry<S: Sink>(buffer: &mut TextBuffer<'_, S>, entry: &Entry)
 }
 
 /// Puts an operation on a cell in a buffer, as `faa 0 1`.
-fn put_operation<S: Sink>(buffer: &mut TextBuffer<'_, S>, op: Op, cell: Cell)
+pub fn put_operation<S: Sink>(buffer: &mut TextBuffer<'_, S>, op: Op, cell: Cell)
     ensures { Writes S.taken S.failures (operation_text op cell) buffer.old buffer.new }
 {
     match op {

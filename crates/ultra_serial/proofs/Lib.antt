@@ -10,3 +10,4 @@ pub mod Explaining
 pub mod RecordsByName
 pub mod Searching
 pub mod Advancing
+pub mod LaterIssues

@@ -10,3 +10,5 @@ pub mod Ordering
 pub mod LogRecorder
 pub mod Breach
 pub mod Examined
+pub mod HasRun
+pub mod LatestIssue

@@ -7,6 +7,7 @@ mod checking;
 mod dense_memory;
 mod examining;
 mod keys;
+mod latest;
 mod log_recorder;
 mod memory;
 mod ordered_run;
@@ -16,7 +17,8 @@ mod serial_state;
 mod small_list;
 
 pub use checking::{BreachKind, CheckFault, check};
-pub use log_recorder::log;
+pub use latest::latest_issue;
+pub use log_recorder::{log, log_and_machine};
 pub use memory::SerialMemory;
 pub use ordered_run::{OrderedRun, order};
 pub use serial_state::OrderFault;

@@ -5,6 +5,7 @@ ghost use Rattle.ultra_model.specs.Machine.{start};
 ghost use Rattle.ultra_serial_law.specs.Log.{Log as LogKept, empty_log, log_of, latest_number, logged};
 ghost use Rattle.ultra_serial_law.specs.SerialList.{history};
 ghost use Rattle.ultra_serial.specs.LogRecorder.{Records, logged_all};
+ghost use Rattle.ultra_serial.specs.HasRun.{HasRun};
 ghost use Rattle.ultra_model.specs.declared.config.TheConstants.{MOST_CYCLES};
 
 use crate::by_pair::ListsByPair;
@@ -93,20 +94,22 @@ impl LogRecorder {
             .unwrap_or(0)
     }
 
-    /// Records the first `cycles` cycles of a run. An error says that memory was refused.
+    /// Records the first `cycles` cycles of a run, and gives the machine at the end. An error says that memory was refused.
     fn record(
         &mut self,
         alloc: Global,
         config: &Config,
         program: &Program,
         cycles: u32,
-    ) -> Result<(), AllocError>
+    ) -> Result<Machine, AllocError>
         requires cycles { cycles ≤ MOST_CYCLES }
         requires before { Records self.old empty_log }
-        ensures { OnOk result (Records self.new (history config.now program.now cycles).log) }
+        ensures log { OnOk result (Records self.new (history config.now program.now cycles).log) }
+        ensures machine { IfOk result (HasRun config.now program.now cycles) }
     {
         let mut machine = Machine::new(alloc, config, program)?;
-        self.record_cycles(&mut machine, cycles)
+        self.record_cycles(&mut machine, cycles)?;
+        Ok(machine)
     }
 
     /// Records a machine from its start for `cycles` cycles, or until it is quiet. An error says that memory was refused.
@@ -114,7 +117,8 @@ impl LogRecorder {
         requires cycles { cycles ≤ MOST_CYCLES }
         requires start { machine.old.state ≡ start machine.old.settings }
         requires before { Records self.old empty_log }
-        ensures { OnOk result (Records self.new (history machine.old.settings machine.old.program cycles).log) }
+        ensures log { OnOk result (Records self.new (history machine.old.settings machine.old.program cycles).log) }
+        ensures machine { OnOk result (HasRun machine.old.settings machine.old.program cycles machine.new) }
     {
         for cycle in 0..cycles {
             machine.cycle();
@@ -145,7 +149,22 @@ pub fn log(
     requires { cycles ≤ MOST_CYCLES }
     ensures { IfOk result (λ log. log_of log ≡ (history config.now program.now cycles).log) }
 {
+    let (log, _) = log_and_machine(alloc, config, program, cycles)?;
+    Ok(log)
+}
+
+/// What a run of n cycles, at most 1,000,000, issued and answered, and the machine after them, or where it was quiet first. `NoMemory` means that memory was refused.
+pub fn log_and_machine(
+    alloc: Global,
+    config: &Config,
+    program: &Program,
+    cycles: u32,
+) -> Result<(Log, Machine), OrderFault>
+    requires { cycles ≤ MOST_CYCLES }
+    ensures log { IfOk result (λ run. log_of run.0 ≡ (history config.now program.now cycles).log) }
+    ensures machine { IfOk result (λ run. HasRun config.now program.now cycles run.1) }
+{
     let mut recording = LogRecorder::new(alloc);
-    recording.record(alloc, config, program, cycles)?;
-    Ok(recording.into_log())
+    let machine = recording.record(alloc, config, program, cycles)?;
+    Ok((recording.into_log(), machine))
 }

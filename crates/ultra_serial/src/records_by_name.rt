@@ -61,7 +61,7 @@ fn empty_lists<T: Drop>(alloc: Global, issues: &[LoggedIssue]) -> Result<ListsBy
 }
 
 /// Issues under their names.
-fn issues_by_name(
+pub(crate) fn issues_by_name(
     alloc: Global,
     issues: &[LoggedIssue],
 ) -> Result<ListsByName<LoggedIssue>, AllocError>

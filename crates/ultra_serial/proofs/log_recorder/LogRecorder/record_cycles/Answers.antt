@@ -1,10 +1,10 @@
-use Rattle.std.proofs.Common.{◌≡◌, ◌+◌, true, rules, arith, sym, ap, subst, ◌∙◌}
+use Rattle.std.proofs.Common.{◌≡◌, ◌+◌, inl, inr, true, rules, arith, sym, ap, subst, ◌∙◌}
 use Rattle.ultra_machine.specs.Running.{Running}
 use Rattle.ultra_model.specs.Machine.{is_quiet}
 use Rattle.ultra_serial_law.specs.Log.{Log}
 use Rattle.ultra_serial_law.specs.SerialList.{History, history}
 use Rattle.ultra_serial.specs.LogRecorder.{Records}
-use Rattle.ultra_serial.proofs.Cycles.{cycles_after, running_start, running_next, history_start, history_next}
+use Rattle.ultra_serial.proofs.Cycles.{cycles_after, running_start, running_next, has_run, history_start, history_next}
 use Rattle.ultra_serial.proofs.Numbers.{noted_log}
 use Rattle.ultra_serial_law.proofs.Rest.{quiet_history}
 use Rattle.ultra_serial.proofs.log_recorder.LogRecorder.record_cycles.Goals as goal
@@ -37,8 +37,8 @@ loop-cycle-preserved c =
       recording = subst (λ (l : Log). Records c.note_all.new.self l) (sym log) (c.in_ok-note_all.ensures (history v p n).log c.loop-cycle.invariant.recording);
     }
 
-pub returns-then-is_quiet : goal.returns-then-is_quiet
-returns-then-is_quiet c =
+pub returns-then-is_quiet-clause-log : goal.returns-then-is_quiet-clause-log
+returns-then-is_quiet-clause-log c =
     let v = c.args.machine.now.settings in
     let p = c.args.machine.now.program in
     let n = c.loop-cycle.cycle in
@@ -51,8 +51,21 @@ returns-then-is_quiet c =
     let log = sym (noted_log n es (history v p n)) ∙ ap (λ (h : History). h.log) all in
     subst (λ (l : Log). Records c.note_all.new.self l) log (c.in_ok-note_all.ensures (history v p n).log c.loop-cycle.invariant.recording)
 
-pub returns-after-loop-cycle : goal.returns-after-loop-cycle
-returns-after-loop-cycle c =
+pub returns-after-loop-cycle-clause-log : goal.returns-after-loop-cycle-clause-log
+returns-after-loop-cycle-clause-log c =
     let v = c.args.machine.now.settings in
     let p = c.args.machine.now.program in
     subst (λ k. Records c.loop-cycle.self (history v p k).log) (omega arith) c.loop-cycle.invariant.recording
+
+pub returns-then-is_quiet-clause-machine : goal.returns-then-is_quiet-clause-machine
+returns-then-is_quiet-clause-machine c =
+    let v = c.args.machine.now.settings in
+    let p = c.args.machine.now.program in
+    let n = c.loop-cycle.cycle in
+    let now = running_next v p c.loop-cycle.machine c.cycle.new.self n c.loop-cycle.invariant.machine c.cycle.ensures in
+    let found : is_quiet c.cycle.new.self.state ≡ true = search rules in
+    has_run v p c.args.cycles (n + 1) c.cycle.new.self now (inr (omega arith, sym (ap (λ (r : Running). is_quiet r.state) now) ∙ found))
+
+pub returns-after-loop-cycle-clause-machine : goal.returns-after-loop-cycle-clause-machine
+returns-after-loop-cycle-clause-machine c =
+    has_run c.args.machine.now.settings c.args.machine.now.program c.args.cycles c.loop-cycle.cycle c.loop-cycle.machine c.loop-cycle.invariant.machine (inl (omega arith))

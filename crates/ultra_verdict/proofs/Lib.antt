@@ -1,0 +1,3 @@
+pub mod CellsGiven
+pub mod Runs
+pub mod Verdicts

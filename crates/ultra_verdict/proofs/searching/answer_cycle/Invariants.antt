@@ -1,0 +1,8 @@
+use Rattle.std.proofs.Common.{◌≡◌, ℕ, ◌<◌, Some}
+use Rattle.std.specs.Prelude.{slice_get}
+use Rattle.ultra_serial_law.specs.declared.records.LoggedAnswer.{LoggedAnswer}
+use Rattle.ultra_serial_law.specs.Legal.{IsAnswerTo}
+use Rattle.ultra_verdict.proofs.searching.answer_cycle.Given as goal
+
+abbrev pub invariant-loop-answer : goal.invariant-loop-answer
+invariant-loop-answer l = (k : ℕ) (a : LoggedAnswer) → k < l.answer-index → slice_get l.answers k ≡ Some a → IsAnswerTo l.entry a → l.last < a.cycle

@@ -1,0 +1,4 @@
+pub mod VerdictText
+pub mod Judged
+pub mod Faults
+pub mod Case
