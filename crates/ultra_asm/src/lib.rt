@@ -18,6 +18,7 @@ pub use canonical::listing;
 use std::alloc::{AllocError, AllocFailed, Global};
 use thiserror::Error;
 use ultra_isa::{MOST_INSTRUCTIONS, Program};
+pub use words::number_written;
 
 /// What is wrong in a program's text.
 #[derive(Clone, Copy, PartialEq, Eq, Debug, Drop, Error)]

@@ -12,16 +12,18 @@ use Rattle.ultra_model.specs.Places.{places}
 use Rattle.ultra_model.specs.Machine.{Settings, size, site, given_value}
 use Rattle.ultra_model.proofs.Each.{places_at, length-places}
 use Rattle.ultra_para.specs.Para.{Para, core_at, cells_acted, core_answered, after_alone, start_para, para_step}
+use Rattle.ultra_para.specs.declared.at_once.StepReport.{StepReport}
+use Rattle.ultra_para.specs.Report.{report_with, step_report}
 use Rattle.ultra_para.specs.Programmed.{Programmed, programmed, cores_of, fresh_processors, IsPeopled}
 
-module _ (c : Settings) (program : List Instr) (cells : List ℕ) (ps : List Located) (w : IsPeopled c cells ps) (p : ℕ) (hp : p < size c) (q new : Located) (now : List ℕ) where
+module _ (c : Settings) (program : List Instr) (cells : List ℕ) (ps : List Located) (w : IsPeopled c cells ps) (p : ℕ) (hp : p < size c) where
   abbrev core : Located → Core
   core l = l.core
 
-  pub stepped_is : (seen : List ℕ) → seen ≡ cells → q ≡ slice_index_or ps p q → new ≡ record q { core = core_answered seen (step_of q.site 1 program q.core empty_interface) (step_of q.site 1 program q.core empty_interface).sent }
+  pub stepped_is : (q new : Located) (now seen : List ℕ) → seen ≡ cells → q ≡ slice_index_or ps p q → new ≡ record q { core = core_answered seen (step_of q.site 1 program q.core empty_interface) (step_of q.site 1 program q.core empty_interface).sent }
       → now ≡ cells_acted seen (step_of q.site 1 program q.core empty_interface).sent
       → programmed c program now (slice_set ps p new) ≡ record (programmed c program cells ps) { state = para_step c program (programmed c program cells ps).state p }
-  stepped_is seen same e f g =
+  stepped_is q new now seen same e f g =
       let home : q.site ≡ site c p = ap (λ (l : Located). l.site) e ∙ w.sites p q hp in
       let here : core_at (programmed c program cells ps).state p ≡ q.core = get_or-map core ps p q fresh_core (omega (arith, hp, w.elements)) ∙ ap core (sym e) in
       let t : Core → Site → Stepped = λ x s. step_of s 1 program x empty_interface in
@@ -33,6 +35,18 @@ module _ (c : Settings) (program : List Instr) (cells : List ℕ) (ps : List Loc
       let make : List Core → Programmed = λ xs. record { settings = c; program = program; state = record { cells = cells_acted cells (t q.core (site c p)).sent; cores = xs } } in
       let put : Core → Programmed = λ x. make (slice_set (cores_of ps) p x) in
       cells_are ∙ (ap make cores ∙ (ap put one ∙ ap (λ (s : Para). record { settings = c; program = program; state = s }) (sym next)))
+
+  -- what it did
+  pub report_is : (q : Located) (seen : List ℕ) → seen ≡ cells → q ≡ slice_index_or ps p q → (o : StepReport) → o ≡ report_with seen (step_of q.site 1 program q.core empty_interface) (step_of q.site 1 program q.core empty_interface).sent
+      → o ≡ step_report c program (programmed c program cells ps).state p
+  unfolding step_report
+  report_is q seen same e o is =
+      let home : q.site ≡ site c p = ap (λ (l : Located). l.site) e ∙ w.sites p q hp in
+      let here : core_at (programmed c program cells ps).state p ≡ q.core = get_or-map (λ (l : Located). l.core) ps p q fresh_core (omega (arith, hp, w.elements)) ∙ ap (λ (l : Located). l.core) (sym e) in
+      let t : Core → Site → Stepped = λ x s. step_of s 1 program x empty_interface in
+      is ∙ (ap (λ xs. report_with xs (t q.core q.site) (t q.core q.site).sent) same
+      ∙ (ap (λ s. report_with cells (t q.core s) (t q.core s).sent) home
+      ∙ ap (λ x. report_with cells (t x (site c p)) (t x (site c p)).sent) (sym here)))
 
 -- ---- before the first step
 module _ (c : Settings) where

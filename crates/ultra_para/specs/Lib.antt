@@ -1,4 +1,5 @@
 pub mod Para
+pub mod Report
 pub mod Careful
 pub mod Law
 pub mod Programmed

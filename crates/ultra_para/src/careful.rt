@@ -1,7 +1,7 @@
 //! Careful programs.
 
-ghost use Rattle.std.specs.Prelude.{◌≡◌, ◌<◌, length, slice_get};
-ghost use Rattle.ultra_para.specs.Careful.{is_careful as careful, refers_to_cell, is_some_fence, is_fenced_pc};
+ghost use Rattle.std.specs.Prelude.{◌≡◌, ◌<◌, IfSome, is_none, length, slice_get};
+ghost use Rattle.ultra_para.specs.Careful.{is_careful as careful, refers_to_cell, is_some_fence, is_fenced_pc, IsFirstUnfenced};
 
 use ultra_isa::{Instr, Program};
 
@@ -36,14 +36,22 @@ fn is_fenced_at(program: &Program, pc: usize) -> bool
     }
 }
 
+/// The program counter of the first instruction that refers to a cell and isn't directly followed by `fence`, from 0. `None` says that the program is careful.
+pub fn first_unfenced(program: &Program) -> Option<usize>
+    ensures first { IfSome result (IsFirstUnfenced program.now) }
+    ensures careful { is_none result ≡ careful program.now }
+{
+    for pc in 0..program.len() {
+        if !is_fenced_at(program, pc) {
+            return Some(pc);
+        }
+    }
+    None
+}
+
 /// Whether a program is careful: each `ld`, `st`, `faa` and `swap` is directly followed by `fence`.
 pub fn is_careful(program: &Program) -> bool
     ensures { result ≡ careful program.now }
 {
-    for pc in 0..program.len() {
-        if !is_fenced_at(program, pc) {
-            return false;
-        }
-    }
-    true
+    first_unfenced(program).is_none()
 }

@@ -7,7 +7,8 @@ mod paracomputer;
 
 ghost use Rattle.ultra_para.specs.Law.{ParacomputerLaw};
 
-pub use careful::is_careful;
+pub use at_once::StepReport;
+pub use careful::{first_unfenced, is_careful};
 pub use paracomputer::Para;
 
 /// The paracomputer law, as this function's contract: for all settings in their ranges, every careful program and every

@@ -1,11 +1,14 @@
 //! The paracomputer.
 
-ghost use Rattle.std.specs.Prelude.{◌≡◌, ◌<◌, ◌*◌, ◌↔◌, All, IfOk, IfSome, IsSome, slice_get, slice_index};
+ghost use Rattle.std.specs.Prelude.{◌≡◌, ◌<◌, ◌≤◌, ◌*◌, ◌↔◌, All, IfOk, IfSome, IsSome, length, slice_get, slice_index};
+ghost use Rattle.std.specs.List.{list_all};
+ghost use Rattle.ultra_isa.specs.Step.{has_stopped};
 ghost use Rattle.ultra_model.specs.Machine.{size};
 ghost use Rattle.ultra_para.specs.Para.{core_at, start_para, para_step, run_para};
-ghost use Rattle.ultra_para.specs.Programmed.{fresh_processors as all_fresh};
+ghost use Rattle.ultra_para.specs.Report.{step_report, have_all_stopped as all_stopped};
+ghost use Rattle.ultra_para.specs.Programmed.{fresh_processors as all_fresh, cores_of};
 
-use crate::at_once::step_at_once;
+use crate::at_once::{StepReport, step_at_once};
 use std::alloc::{AllocError, Global};
 use std::marker::Model;
 use ultra_isa::{Processor, Program};
@@ -56,6 +59,13 @@ fn fresh_processors(alloc: Global, config: &Config) -> Result<Vec<Processor>, Al
     Ok(processors)
 }
 
+/// Whether these processing elements have halted or faulted.
+fn have_stopped(processors: &[Processor]) -> bool
+    ensures { result ≡ list_all (λ p. has_stopped p.core.activity) processors.now }
+{
+    processors.iter().all(|processor| processor.has_stopped())
+}
+
 impl Para {
     /// The paracomputer of these settings and this program before its first step: all registers and cells are 0 but for the initial ones.
     ///
@@ -76,14 +86,23 @@ impl Para {
         requires { pe < size self.old.settings }
         ensures { self.new ≡ record self.old { state = para_step self.old.settings self.old.program self.old.state pe } }
     {
+        let _ = self.observed_step(pe);
+    }
+
+    /// The same as [`step`](Para::step), and says what the step did.
+    pub fn observed_step(&mut self, pe: Pe) -> StepReport
+        requires { pe < size self.old.settings }
+        ensures state { self.new ≡ record self.old { state = para_step self.old.settings self.old.program self.old.state pe } }
+        ensures report { result ≡ step_report self.old.settings self.old.program self.old.state pe }
+    {
         step_at_once(
             &mut self.processors[pe as usize],
             &self.program,
             self.cells.as_mut_slice(),
-        );
+        )
     }
 
-    /// The steps of a schedule, one after the other: each number is the processing element that makes the step.
+    /// The steps of a schedule, in its order: each number is the processing element that makes the step.
     pub fn run(&mut self, schedule: &[Pe])
         requires { All (λ p. p < size self.old.settings) schedule.now }
         ensures { self.new ≡ record self.old { state = run_para self.old.settings self.old.program self.old.state schedule.now } }
@@ -91,6 +110,35 @@ impl Para {
         for &pe in schedule {
             self.step(pe);
         }
+    }
+
+    /// The words of all cells, by address.
+    pub fn cells(&self) -> &[Word]
+        ensures value { result.now ≡ self.now.state.cells }
+        ensures known { length result.now ≡ size self.now.settings * self.now.settings.cells }
+        ensures few { length result.now ≤ 262144 }
+    {
+        // for the prover: a memory has at most 262144 cells
+        let _cells = self.config.all_cells();
+        self.cells.as_slice()
+    }
+
+    /// The processing elements, by number.
+    pub fn processors(&self) -> &[Processor]
+        ensures value { cores_of result.now ≡ self.now.state.cores }
+        ensures known { length result.now ≡ size self.now.settings }
+        ensures few { length result.now ≤ 64 }
+    {
+        // for the prover: there are at most 64 processing elements
+        let _size = self.config.net().size();
+        self.processors.as_slice()
+    }
+
+    /// Whether all processing elements have halted or faulted.
+    pub fn have_all_stopped(&self) -> bool
+        ensures { result ≡ all_stopped self.now.state }
+    {
+        have_stopped(self.processors.as_slice())
     }
 
     /// The word in a cell, or `None` where the memory has no such cell.

@@ -30,18 +30,18 @@ cell_within s program core i j r count new step leaves own all =
 
 pub bounds-cells-cell : goal.bounds-cells-cell
 bounds-cells-cell c =
-    cell_within c.args.processor.now.site c.args.program.now c.args.processor.now.core _ _ _ _ c.new-interface.ensures c.step.ensures.interface c.in-Some.ensures.request c.step.ensures.own c.requires
+    cell_within c.args.processor.now.site c.args.program.now c.args.processor.now.core _ _ _ _ c.new-interface.ensures c.step-step.ensures.interface c.in-Some.ensures.request c.step-step.ensures.own c.requires
 
-pub bounds-cells-cell-in-Some : goal.bounds-cells-cell-in-Some
-bounds-cells-cell-in-Some c =
-    cell_within c.args.processor.now.site c.args.program.now c.args.processor.now.core _ _ _ _ c.new-interface.ensures c.step.ensures.interface c.in-Some.ensures.request c.step.ensures.own c.requires
+pub bounds-cells-cell-2 : goal.bounds-cells-cell-2
+bounds-cells-cell-2 c =
+    cell_within c.args.processor.now.site c.args.program.now c.args.processor.now.core _ _ _ _ c.new-interface.ensures c.step-step.ensures.interface c.in-Some.ensures.request c.step-step.ensures.own c.requires
 
 pub deliver-target-requires : goal.deliver-target-requires
 deliver-target-requires c =
     let s = c.args.processor.now.site in
     let program = c.args.program.now in
     let core = c.args.processor.now.core in
-    let after = interface_after s program core _ _ c.new-interface.ensures c.step.ensures.interface in
+    let after = interface_after s program core _ _ c.new-interface.ensures c.step-step.ensures.interface in
     let sent = is_sent s program core _ _ after c.in-Some.ensures.request in
     rw (c.leave.ensures.interface, after) (can_deliver s program core c.in-Some.request sent)
 
@@ -50,6 +50,15 @@ returns-in_default-target-clause-cells c =
     let s = c.args.processor.now.site in
     let program = c.args.program.now in
     let core = c.args.processor.now.core in
-    let after = interface_after s program core _ _ c.new-interface.ensures c.step.ensures.interface in
+    let after = interface_after s program core _ _ c.new-interface.ensures c.step-step.ensures.interface in
+    let sent = is_sent s program core _ _ after c.in-Some.ensures.request in
+    rw (sent, c.act-word.ensures) refl
+
+pub returns-in_default-target-clause-report : goal.returns-in_default-target-clause-report
+returns-in_default-target-clause-report c =
+    let s = c.args.processor.now.site in
+    let program = c.args.program.now in
+    let core = c.args.processor.now.core in
+    let after = interface_after s program core _ _ c.new-interface.ensures c.step-step.ensures.interface in
     let sent = is_sent s program core _ _ after c.in-Some.ensures.request in
     rw (sent, c.act-word.ensures) refl

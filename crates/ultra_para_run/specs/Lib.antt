@@ -1,0 +1,5 @@
+pub mod ScheduleText
+pub mod ScheduleFaults
+pub mod ParaText
+pub mod SeededSchedule
+pub mod Steps
