@@ -1,5 +1,6 @@
 pub mod Interleaving
 pub mod Tickets
+pub mod TicketRounds
 pub mod Tally
 pub mod Gate
 pub mod ReadersWriters
@@ -11,6 +12,7 @@ pub mod Reading
 pub mod GateText
 pub mod ReadersWritersText
 pub mod BarrierText
+pub mod TicketRoundsText
 pub mod QueueText
 pub mod OnMachine
 pub mod Given

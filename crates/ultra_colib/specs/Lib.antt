@@ -1,4 +1,5 @@
 pub mod Tickets
+pub mod TicketRounds
 pub mod Schedules
 pub mod Gate
 pub mod ReadersWriters

@@ -71,3 +71,16 @@ queue_numbers z rounds =
 
 abbrev pub queue_text : ℕ → ℕ → List ℕ
 queue_text z rounds = text_with_numbers queue_pieces (queue_numbers z rounds)
+
+-- the ticket counter, from which each processing element draws `rounds` tickets
+abbrev pub tickets_pieces : List (List ℕ)
+tickets_pieces =
+    codes "li r2 1\nli r5 "
+    ∷ codes "\nagain:\nfaa r1 r0 r2\nfence\nsub r5 r5 r2\njnz r5 again\nhalt\n"
+    ∷ []
+
+abbrev pub tickets_numbers : ℕ → List ℕ
+tickets_numbers rounds = rounds ∷ []
+
+abbrev pub tickets_text : ℕ → List ℕ
+tickets_text rounds = text_with_numbers tickets_pieces (tickets_numbers rounds)

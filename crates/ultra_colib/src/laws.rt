@@ -7,12 +7,27 @@ ghost use Rattle.ultra_colib.specs.Gate.{GateLaw};
 ghost use Rattle.ultra_colib.specs.NoQueue.{IsNoQueueRefused};
 ghost use Rattle.ultra_colib.specs.Queue.{QueueLaw};
 ghost use Rattle.ultra_colib.specs.ReadersWriters.{ReadersWritersLaw};
+ghost use Rattle.ultra_colib.specs.TicketRounds.{AllDrawnLaw, NextTicketLaw, NoTicketTwiceLaw, TicketRoundsLaw};
 ghost use Rattle.ultra_colib.specs.Tickets.{TicketsLaw};
 
 /// The law of the ticket counter, as this function's contract: for all settings in their ranges without initial values
 /// and every schedule, no two processing elements have taken the same ticket. The function itself does nothing.
 pub fn tickets_law()
     ensures different { TicketsLaw }
+{}
+
+/// The law of the ticket counter with rounds, as this function's contract: for 1 to 1000 rounds, all
+/// settings in their ranges without initial values and every schedule, no two processing elements
+/// have the same ticket, and cell 0, the next ticket, is greater than each that somebody has. No
+/// ticket is drawn twice: what one processing element has no other has later, and a later draw gives
+/// one a greater ticket. Once all have come to the last instruction, as many tickets have been drawn
+/// as there are processing elements, times the rounds. A processing element has a ticket from its
+/// first draw on. The function itself does nothing.
+pub fn ticket_rounds_law()
+    ensures different { TicketRoundsLaw }
+    ensures none_twice { NoTicketTwiceLaw }
+    ensures next { NextTicketLaw }
+    ensures all_drawn { AllDrawnLaw }
 {}
 
 /// The gate's law, as this function's contract: at most `bound` processing elements are inside at once, after every

@@ -10,8 +10,10 @@ mod texts;
 ghost use Rattle.ultra_colib.specs.Laws.{CoordinationLaw};
 
 pub use fault::ColibFault;
-pub use laws::{barrier_law, gate_law, queue_law, readers_writers_law, tickets_law};
-pub use programs::{barrier_program, gate_program, queue_program, rw_program};
+pub use laws::{
+    barrier_law, gate_law, queue_law, readers_writers_law, ticket_rounds_law, tickets_law,
+};
+pub use programs::{barrier_program, gate_program, queue_program, rw_program, tickets_program};
 pub use runs::{run_barrier, run_gate, run_queue, run_rw};
 use ultra_para::paracomputer_law;
 

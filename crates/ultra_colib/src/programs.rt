@@ -8,11 +8,12 @@ ghost use Rattle.ultra_colib.specs.Gate.{gate};
 ghost use Rattle.ultra_colib.specs.ReadersWriters.{readers_writers};
 ghost use Rattle.ultra_colib.specs.Barrier.{barrier};
 ghost use Rattle.ultra_colib.specs.Queue.{queue};
-ghost use Rattle.ultra_colib.specs.Texts.{gate_text as text_of_gate, rw_text as text_of_rw, barrier_text as text_of_barrier, queue_text as text_of_queue};
+ghost use Rattle.ultra_colib.specs.TicketRounds.{ticket_rounds};
+ghost use Rattle.ultra_colib.specs.Texts.{gate_text as text_of_gate, rw_text as text_of_rw, barrier_text as text_of_barrier, queue_text as text_of_queue, tickets_text as text_of_tickets};
 ghost use Rattle.ultra_colib.specs.Parameters.{gate_takes, rw_takes, barrier_takes, queue_takes};
 
 use crate::ColibFault;
-use crate::texts::{barrier_text, gate_text, queue_text, rw_text};
+use crate::texts::{barrier_text, gate_text, queue_text, rw_text, tickets_text};
 use std::alloc::Global;
 use ultra_asm::assemble;
 use ultra_isa::Program;
@@ -110,5 +111,22 @@ pub fn queue_program(alloc: Global, log_size: u32, rounds: u32) -> Result<Progra
         return Err(ColibFault::BadParameter);
     }
     let text = queue_text(alloc, log_size, rounds)?;
+    assembled(alloc, text.as_str())
+}
+
+/// The ticket counter, from which each processing element draws a ticket `rounds` times, 1 to 1000.
+///
+/// Cell 0 is the number of tickets drawn. A ticket is the old value of cell 0, and stands in
+/// register 1 until the next one is drawn.
+pub fn tickets_program(alloc: Global, rounds: u32) -> Result<Program, ColibFault>
+    ensures program { IfOk result (λ p. p ≡ ticket_rounds rounds) }
+    ensures text { IfOk result (IsProgramText (text_of_tickets rounds)) }
+    ensures careful { IfOk result (λ p. is_careful p ≡ true) }
+    ensures parameters { (result ≡ Err ColibFault.BadParameter) ↔ (barrier_takes rounds ≡ false) }
+{
+    if !are_rounds(rounds) {
+        return Err(ColibFault::BadParameter);
+    }
+    let text = tickets_text(alloc, rounds)?;
     assembled(alloc, text.as_str())
 }

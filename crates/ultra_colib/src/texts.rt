@@ -1,7 +1,7 @@
 //! The texts of the coordination programs, with their parameters put in.
 
 ghost use Rattle.std.specs.Prelude.{◌≡◌, ◌≤◌, ◌^◌, [], ◌∷◌, IfOk, string_bytes};
-ghost use Rattle.ultra_colib.specs.Texts.{text_with_numbers, gate_text, rw_text, barrier_text, queue_pieces, queue_text};
+ghost use Rattle.ultra_colib.specs.Texts.{text_with_numbers, gate_text, rw_text, barrier_text, queue_pieces, queue_text, tickets_text};
 
 use std::alloc::{AllocError, Global};
 
@@ -73,5 +73,14 @@ pub(crate) fn queue_text(alloc: Global, log_size: u32, rounds: u32) -> Result<St
         places - 1,
         8 + places,
         7 + 2 * places,
+    )
+}
+
+/// The text of the ticket counter.
+pub(crate) fn tickets_text(alloc: Global, rounds: u32) -> Result<String, AllocError>
+    ensures { IfOk result (λ text. string_bytes text ≡ tickets_text rounds) }
+{
+    format!(in alloc;
+        "li r2 1\nli r5 {rounds}\nagain:\nfaa r1 r0 r2\nfence\nsub r5 r5 r2\njnz r5 again\nhalt\n"
     )
 }

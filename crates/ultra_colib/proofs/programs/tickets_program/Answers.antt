@@ -1,0 +1,20 @@
+use Rattle.std.proofs.Common.{◌≡◌, ℕ, List, true, sym, ◌∙◌, subst, refl, arith}
+use Rattle.ultra_isa.specs.declared.Instr.{Instr}
+use Rattle.ultra_asm.specs.ProgramText.{IsProgramText}
+use Rattle.ultra_para.specs.Careful.{is_careful}
+use Rattle.ultra_colib.specs.TicketRounds.{ticket_rounds}
+use Rattle.ultra_colib.specs.Texts.{tickets_text}
+use Rattle.ultra_colib.proofs.TicketRoundsText.{reads}
+use Rattle.ultra_colib.proofs.Given.{well}
+use Rattle.ultra_colib.proofs.programs.tickets_program.Goals as goal
+
+pub returns-clause-program : goal.returns-clause-program
+returns-clause-program c =
+    let is = c.as_str.ensures.value ∙ c.in_ok-text.ensures in
+    c.assembled.ensures.program (ticket_rounds c.args.rounds) (subst (λ (text : List ℕ). IsProgramText text (ticket_rounds c.args.rounds)) (sym is) (reads c.args.rounds (omega (arith, c.ranges.rounds))))
+
+pub returns-clause-text : goal.returns-clause-text
+returns-clause-text c = well (IsProgramText (tickets_text c.args.rounds)) (ticket_rounds c.args.rounds) c.assembled.result (returns-clause-program c) (reads c.args.rounds (omega (arith, c.ranges.rounds)))
+
+pub returns-clause-careful : goal.returns-clause-careful
+returns-clause-careful c = well (λ (p : List Instr). is_careful p ≡ true) (ticket_rounds c.args.rounds) c.assembled.result (returns-clause-program c) refl
