@@ -10,11 +10,11 @@ use Rattle.ultra_args.specs.Asked.{AreOnly, IsAskedBy, IsFault, IsHelp, IsTextOf
 use Rattle.ultra_args.specs.Grammar.{ultra_app}
 
 help_fault : (name : Text) → fault_of ultra_app (name ∷ codes "--help" ∷ []) ≡ kind.DisplayHelp ∷ []
-unfolding clap_on_literals
+unfolding clap_on_literals ultra_app
 help_fault name = refl
 
 version_fault : (name : Text) → fault_of ultra_app (name ∷ codes "--version" ∷ []) ≡ kind.DisplayVersion ∷ []
-unfolding clap_on_literals
+unfolding clap_on_literals ultra_app
 version_fault name = refl
 
 -- words that have one fault

@@ -5,12 +5,16 @@ use Rattle.std.proofs.lemmas.Option.{same_Some}
 use Rattle.std.specs.Prelude.{◌==◌}
 use Rattle.std.specs.Str.{bytes_eq}
 use Rattle.clap.specs.Lexer.{long_of, short_of}
-use Rattle.clap.specs.Words.{Text, fault_of, IsAmong}
+use Rattle.clap.specs.Words.{Row, Text, fault_of, subcommand_of, IsAmong}
+use Rattle.clap.specs.declared.parser.matches.ValueSource.{ValueSource}
+use Rattle.clap.specs.declared.parser.matches.ValueSource.TheVariants.{CommandLine, DefaultValue}
+use Rattle.clap.specs.declared.builder.value_parser.Reading.TheVariants.{AsWritten}
 use Rattle.clap.proofs.OnLiterals.{clap_on_literals}
 use Rattle.clap.specs.declared.error.ErrorKind.{ErrorKind}
 use Rattle.ultra_args.specs.declared.Parsed.{Parsed}
 use Rattle.ultra_args.specs.declared.Parsed.TheVariants as parsed
-use Rattle.ultra_args.specs.Asked.{Asked, asked, run, AreRunOf, IsAskedBy, IsFault, IsPath, IsRunOf}
+use Rattle.ultra_args.specs.Asked.{Asked, asked, command_among, command_named, named_in, run, AreRunOf, IsAskedBy, IsFault, IsPath, IsRunOf}
+use Rattle.ultra_args.specs.declared.LineFilter.TheVariants.{All}
 use Rattle.ultra_args.specs.Grammar.{ultra_app}
 
 -- a word that begins with no hyphen is no flag
@@ -26,18 +30,40 @@ plain_word (c ∷ cs) path =
     record { trailing = rw other refl; long = rw other refl; short = rw other refl }
 
 pub run_words : (name conf prog : Text) → IsPath conf → IsPath prog → fault_of ultra_app (name ∷ codes "run" ∷ conf ∷ prog ∷ []) ≡ []
-unfolding clap_on_literals
+unfolding clap_on_literals ultra_app
 run_words name conf prog a b =
     let c = plain_word conf a in
     let p = plain_word prog b in
     rw (c.trailing, c.long, c.short, p.trailing, p.long, p.short) refl
 
-pub run_asked : (name conf prog : Text) → IsPath conf → IsPath prog → asked (name ∷ codes "run" ∷ conf ∷ prog ∷ []) ≡ Some (run conf prog 1)
-unfolding clap_on_literals
-run_asked name conf prog a b =
+unfoldable found : Text → Text → ValueSource → Row
+found id value source = record {
+  id = id;
+  values = value ∷ [];
+  count = None;
+  source = Some source;
+  reading = AsWritten;
+}
+
+unfoldable run_rows : Text → Text → List Row
+run_rows conf prog =
+    found (codes "CONF") conf CommandLine ∷ found (codes "PROG") prog CommandLine
+    ∷ found (codes "workers") (codes "1") DefaultValue ∷ found (codes "from") (codes "0") DefaultValue
+    ∷ found (codes "to") (codes "1000000") DefaultValue ∷ found (codes "only") (codes "all") DefaultValue ∷ []
+
+rows_found : (name conf prog : Text) → IsPath conf → IsPath prog → subcommand_of ultra_app (name ∷ codes "run" ∷ conf ∷ prog ∷ []) ≡ Some (codes "run", run_rows conf prog)
+unfolding clap_on_literals ultra_app run_rows found
+rows_found name conf prog a b =
     let c = plain_word conf a in
     let p = plain_word prog b in
     rw (c.trailing, c.long, c.short, p.trailing, p.long, p.short) refl
+
+run_named : (conf prog : Text) → named_in (Some (codes "run", run_rows conf prog)) ≡ Some (run conf prog 1 0 1000000 All)
+unfolding command_named command_among run_rows found
+run_named conf prog = refl
+
+pub run_asked : (name conf prog : Text) → IsPath conf → IsPath prog → asked (name ∷ codes "run" ∷ conf ∷ prog ∷ []) ≡ Some (run conf prog 1 0 1000000 All)
+run_asked name conf prog a b = ap named_in (rows_found name conf prog a b) ∙ run_named conf prog
 
 -- words that ask for something have no fault
 no_fault : (words : List Text) (a : Asked) (k : ErrorKind) → fault_of ultra_app words ≡ [] → asked words ≡ Some a → ¬ IsFault words k
@@ -53,7 +79,7 @@ run_of_paths words p by conf prog are = go p by
     none : fault_of ultra_app words ≡ []
     none = ap (fault_of ultra_app) are.1 ∙ run_words are.0 conf prog are.2 are.3
 
-    is : asked words ≡ Some (run conf prog 1)
+    is : asked words ≡ Some (run conf prog 1 0 1000000 All)
     is = ap asked are.1 ∙ run_asked are.0 conf prog are.2 are.3
 
     go : (p : Parsed) → IsAskedBy words p → IsRunOf conf prog p

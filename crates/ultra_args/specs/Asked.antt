@@ -1,39 +1,83 @@
--- which words ask for what
-use Rattle.std.specs.Prelude.{◌≡◌, ◌≢◌, ◌⊎◌, ◌==◌, ◌&&◌, ⊤, ℕ, Bool, true, false, List, [], ◌∷◌, length, slice_index, Option, Some, None, codes, if◌then◌else◌, nat_lt, nat_le, option_map, option_and_then, Result, MatchResult}
+-- what a command line asks for
+use Rattle.std.specs.Prelude.{◌≡◌, ◌≢◌, ◌⊎◌, ◌==◌, ◌&&◌, ◌≤◌, ⊤, ℕ, Bool, true, false, List, []}
+use Rattle.std.specs.Prelude.{◌∷◌, find, length, slice_index, Option, Some, None, codes}
+use Rattle.std.specs.Prelude.{if◌then◌else◌, nat_lt, nat_le, option_map, option_and_then}
+use Rattle.std.specs.Prelude.{Result, MatchResult}
 use Rattle.std.specs.Char.{digit_value}
+use Rattle.std.specs.Option.{option_map_or}
 use Rattle.std.specs.Str.{bytes_eq}
 use Rattle.std.specs.Str.Parse.{digits_value, without_leading_plus}
-use Rattle.clap.specs.Words.{Row, Text, all_of, fault_of, first_of, one_of, kind_of, subcommand_of, IsAmong}
+use Rattle.clap.specs.Words.{Row, Text, all_of, fault_of, first_of, one_of, kind_of}
+use Rattle.clap.specs.Words.{subcommand_of, IsAmong}
 use Rattle.clap.specs.declared.Error.{Error}
 use Rattle.clap.specs.declared.error.ErrorKind.{ErrorKind}
 use Rattle.clap.specs.declared.error.ErrorKind.TheVariants as kind
 use Rattle.ultra_args.specs.declared.Invocation.{Invocation}
 use Rattle.ultra_args.specs.declared.Invocation.TheVariants as command
+use Rattle.ultra_args.specs.declared.LineFilter.{LineFilter}
+use Rattle.ultra_args.specs.declared.LineFilter.TheVariants.{All, Events, End}
+use Rattle.ultra_args.specs.declared.ScheduleOf.{ScheduleOf}
+use Rattle.ultra_args.specs.declared.ScheduleOf.TheVariants.{File, Seed}
+use Rattle.ultra_args.specs.declared.sweep_output.SweepOutput.{SweepOutput}
+use Rattle.ultra_args.specs.declared.sweep_output.SweepOutput.TheVariants.{Report, Measures}
 use Rattle.ultra_args.specs.declared.Coordination.{Coordination}
-use Rattle.ultra_args.specs.declared.Coordination.TheVariants.{Gate, Queue, ReadersWriters, Barrier}
+use Rattle.ultra_args.specs.declared.Coordination.TheVariants.{Gate, Queue, ReadersWriters}
+use Rattle.ultra_args.specs.declared.Coordination.TheVariants.{Barrier, Tickets}
 use Rattle.ultra_args.specs.declared.Parsed.{Parsed}
 use Rattle.ultra_args.specs.declared.Parsed.TheVariants as parsed
+use Rattle.ultra_args.specs.declared.table.Argument.{Argument}
+use Rattle.ultra_args.specs.declared.table.ArgumentKind.{ArgumentKind}
+use Rattle.ultra_args.specs.declared.table.ArgumentKind.TheVariants.{Number}
+use Rattle.ultra_args.specs.declared.table.CommandName.{CommandName}
+use Rattle.ultra_args.specs.declared.table.CommandName.TheVariants as name
+use Rattle.ultra_args.specs.declared.table.CommandRow.{CommandRow}
+use Rattle.ultra_args.specs.declared.table.TheConstants as arg
 use Rattle.ultra_args.specs.Grammar.{ultra_app}
+
+-- where the steps of a paracomputer come from, with the path as a text
+pub data Schedule : Type 0 where
+  by_file : Text → Schedule
+  by_seed : ℕ → Option ℕ → Schedule
 
 -- what the program is asked to do, with the paths as texts
 pub data Asked : Type 0 where
-  run : Text → Text → ℕ → Asked
+  run : Text → Text → ℕ → ℕ → ℕ → LineFilter → Asked
+  events : Text → Text → ℕ → ℕ → Asked
+  requests : Text → Text → Asked
+  measure : Text → Text → Bool → Option ℕ → Asked
   order : Text → Text → Asked
   explain : Text → Text → ℕ → Asked
-  list : Text → Asked
-  sweep : Text → ℕ → ℕ → Bool → Asked
+  check : Text → Text → Text → Asked
+  para : Text → Text → Schedule → Bool → Asked
+  list : Text → Bool → Asked
+  sweep : Text → ℕ → ℕ → Bool → SweepOutput → Asked
   lib : Coordination → Asked
 
+abbrev pub schedule_of : ScheduleOf → Schedule
+schedule_of (File path) = by_file path.now
+schedule_of (Seed seed steps) = by_seed seed steps
+
 abbrev pub asked_of : Invocation → Asked
-asked_of (command.Run conf prog workers) = run conf.now prog.now workers
+asked_of (command.Run conf prog workers from to only) =
+    run conf.now prog.now workers from to only
+asked_of (command.Events conf prog from to) = events conf.now prog.now from to
+asked_of (command.Requests conf prog) = requests conf.now prog.now
+asked_of (command.Measure conf prog csv every) = measure conf.now prog.now csv every
 asked_of (command.Order conf prog) = order conf.now prog.now
 asked_of (command.Explain conf prog heap) = explain conf.now prog.now heap
-asked_of (command.List prog) = list prog.now
-asked_of (command.Sweep jobs workers at_once progress) =
-    sweep jobs.now workers at_once progress
+asked_of (command.Check conf prog path) = check conf.now prog.now path.now
+asked_of (command.Para conf prog schedule only_end) =
+    para conf.now prog.now (schedule_of schedule) only_end
+asked_of (command.List prog careful) = list prog.now careful
+asked_of (command.Sweep jobs workers at_once progress output) =
+    sweep jobs.now workers at_once progress output
 asked_of (command.Lib coordination) = lib coordination
 
--- ---- numbers
+-- ---- what `clap` found for an argument
+
+-- the flag of this name is given
+abbrev pub is_set : Text → List Row → Bool
+is_set name rows = option_map_or (λ t. bytes_eq t (codes "true")) (first_of name rows) false
 
 abbrev pub all_digits : List ℕ → Bool
 all_digits [] = true
@@ -45,51 +89,88 @@ number_below limit ds =
     if nat_lt 0 (length ds) && (all_digits ds && nat_lt (digits_value 10 ds) limit)
     then Some (digits_value 10 ds) else None
 
--- a number of an option: a plus may stand first
-abbrev pub option_number : Text → List Row → Option ℕ
-option_number id rows = option_and_then (λ t.
-    number_below 18446744073709551616 (without_leading_plus t)) (one_of id rows)
-
-abbrev pub within : ℕ → ℕ → ℕ → Option ℕ
-within least most n = if nat_le least n && nat_le n most then Some n else None
-
-abbrev pub number_within : ℕ → ℕ → Text → List Row → Option ℕ
-number_within least most id rows = option_and_then (within least most) (option_number id rows)
-
 -- a number of a coordination program: decimal digits alone, for a number of a register
 abbrev pub decimal : Text → Option ℕ
 decimal t = if slice_index t 0 == 43 then None else number_below 4294967296 t
 
--- ---- the commands, by what `clap` found for their arguments
+-- the number of an option of this name: a plus may come first
+abbrev pub given_number : Text → List Row → Option ℕ
+given_number name rows = option_and_then (λ t.
+    number_below 18446744073709551616 (without_leading_plus t)) (one_of name rows)
 
-abbrev pub on_a_run : (Text → Text → Option Asked) → List Row → Option Asked
-on_a_run make rows = option_and_then (λ conf. option_and_then (make conf)
-    (first_of (codes "PROG") rows)) (first_of (codes "CONF") rows)
+module _ {T : Type 0} where
+  -- the number is in the range of an option of this kind
+  abbrev pub IsInRange : ArgumentKind T → ℕ → Type 0
+  IsInRange (Number number least most) n = (least ≤ n) × (n ≤ most)
+  IsInRange _ n = ⊥
 
-abbrev pub run_in : List Row → Option Asked
-run_in rows = on_a_run (λ conf prog. option_map (run conf prog)
-    (number_within 1 64 (codes "workers") rows)) rows
+  abbrev pub in_range : ArgumentKind T → ℕ → Option ℕ
+  in_range (Number number least most) n =
+      if nat_le least n && nat_le n most then Some n else None
+  in_range _ n = None
 
-abbrev pub order_in : List Row → Option Asked
-order_in rows = on_a_run (λ conf prog. Some (order conf prog)) rows
+  -- the number of the option of this name, in the range of its kind
+  abbrev pub number_of : Text → ArgumentKind T → List Row → Option ℕ
+  number_of name kind rows = option_and_then (in_range kind) (given_number name rows)
 
-abbrev pub explain_in : List Row → Option Asked
-explain_in rows = on_a_run (λ conf prog. option_map (explain conf prog)
-    (number_within 256 16777216 (codes "heap") rows)) rows
+-- ---- the commands
 
-abbrev pub list_in : List Row → Option Asked
-list_in rows = option_map list (first_of (codes "PROG") rows)
+-- an argument of the table
+abbrev pub TableArgument : Type 0
+TableArgument = Argument (record { now : Text })
 
--- the flag was given
-abbrev pub is_set : Option Text → Bool
-is_set None = false
-is_set (Some t) = bytes_eq t (codes "true")
+abbrev pub argument_text : TableArgument → List Row → Option Text
+argument_text a = first_of a.name.now
 
-abbrev pub sweep_in : List Row → Option Asked
-sweep_in rows = option_and_then (λ jobs. option_and_then (λ workers. option_map (λ at_once.
-    sweep jobs workers at_once (is_set (first_of (codes "progress") rows)))
-    (number_within 1 64 (codes "at-once") rows)) (number_within 1 64 (codes "workers") rows))
-    (first_of (codes "JOBS") rows)
+abbrev pub argument_number : TableArgument → List Row → Option ℕ
+argument_number a = number_of a.name.now a.kind
+
+abbrev pub argument_flag : TableArgument → List Row → Bool
+argument_flag a = is_set a.name.now
+
+-- what follows from the text of an argument, and from the number of an option
+abbrev pub with_text : TableArgument → List Row → (Text → Option Asked) → Option Asked
+with_text a rows next = option_and_then next (argument_text a rows)
+
+abbrev pub with_number : TableArgument → List Row → (ℕ → Option Asked) → Option Asked
+with_number a rows next = option_and_then next (argument_number a rows)
+
+abbrev pub with_run : List Row → (Text → Text → Option Asked) → Option Asked
+with_run rows next = with_text arg.CONF rows (λ conf. with_text arg.PROG rows (next conf))
+
+-- the first and the last cycle that are shown
+abbrev pub cycles_in : List Row → Option (ℕ × ℕ)
+cycles_in rows = option_and_then (λ from. option_map (λ to. (from, to)) (argument_number arg.TO rows))
+    (argument_number arg.FROM rows)
+
+abbrev pub line_filter : List Row → Option LineFilter
+line_filter rows = option_and_then (λ word. if bytes_eq word (codes "all") then Some All
+    else (if bytes_eq word (codes "events") then Some Events
+    else (if bytes_eq word (codes "end") then Some End else None))) (argument_text arg.ONLY rows)
+
+abbrev pub only_end : List Row → Option Bool
+only_end rows = option_and_then (λ word. if bytes_eq word (codes "all") then Some false
+    else (if bytes_eq word (codes "end") then Some true else None))
+    (argument_text arg.ALL_OR_END rows)
+
+-- a file or a seed, and not both; steps only with a seed
+abbrev pub schedule : Option Text → Option ℕ → Option ℕ → Option Schedule
+schedule (Some path) None None = Some (by_file path)
+schedule None (Some seed) steps = Some (by_seed seed steps)
+schedule _ _ _ = None
+
+abbrev pub schedule_in : List Row → Option Schedule
+schedule_in rows =
+    schedule (argument_text arg.SCHEDULE rows) (argument_number arg.SEED rows) (argument_number arg.STEPS rows)
+
+-- windows only of measures
+abbrev pub output : Bool → Option ℕ → Option SweepOutput
+output true every = Some (Measures every)
+output false None = Some Report
+output false (Some every) = None
+
+abbrev pub output_in : List Row → Option SweepOutput
+output_in rows = output (argument_flag arg.MEASURES rows) (argument_number arg.EVERY rows)
 
 -- the coordination programs of two numbers, and of one
 abbrev pub sized : Text → ℕ → ℕ → Option Coordination
@@ -97,28 +178,54 @@ sized name size rounds = if bytes_eq name (codes "gate") then Some (Gate size ro
     else (if bytes_eq name (codes "queue") then Some (Queue size rounds)
     else (if bytes_eq name (codes "rw") then Some (ReadersWriters size rounds) else None))
 
-abbrev pub unsized : Text → ℕ → Option Coordination
-unsized name rounds = if bytes_eq name (codes "barrier") then Some (Barrier rounds) else None
+abbrev pub sizeless : Text → ℕ → Option Coordination
+sizeless name rounds = if bytes_eq name (codes "barrier") then Some (Barrier rounds)
+    else (if bytes_eq name (codes "tickets") then Some (Tickets rounds) else None)
 
 abbrev pub coordination : Text → List Text → Option Coordination
 coordination name [] = None
-coordination name (t ∷ []) = option_and_then (unsized name) (decimal t)
+coordination name (t ∷ []) = option_and_then (sizeless name) (decimal t)
 coordination name (z ∷ t ∷ []) =
     option_and_then (λ size. option_and_then (sized name size) (decimal t)) (decimal z)
 coordination name (z ∷ t ∷ x ∷ rest) = None
 
-abbrev pub lib_in : List Row → Option Coordination
-lib_in rows = option_and_then (λ name. option_and_then (coordination name)
-    (all_of (codes "NUMBER") rows)) (first_of (codes "NAME") rows)
+-- what a command is asked for
+abbrev pub asked_in : CommandName → List Row → Option Asked
+asked_in name.Run rows = option_and_then (λ cycles. with_run rows (λ conf prog.
+    with_number arg.WORKERS rows (λ workers.
+    option_map (run conf prog workers cycles.0 cycles.1) (line_filter rows)))) (cycles_in rows)
+asked_in name.Events rows = option_and_then (λ cycles. with_run rows (λ conf prog.
+    Some (events conf prog cycles.0 cycles.1))) (cycles_in rows)
+asked_in name.Requests rows = with_run rows (λ conf prog. Some (requests conf prog))
+asked_in name.Measure rows = with_run rows (λ conf prog.
+    Some (measure conf prog (argument_flag arg.CSV rows) (argument_number arg.EVERY rows)))
+asked_in name.Order rows = with_run rows (λ conf prog. Some (order conf prog))
+asked_in name.Explain rows = with_run rows (λ conf prog. with_number arg.HEAP rows (λ heap.
+    Some (explain conf prog heap)))
+asked_in name.Check rows = with_run rows (λ conf prog. with_text arg.LIST rows (λ path.
+    Some (check conf prog path)))
+asked_in name.Para rows = with_run rows (λ conf prog. option_and_then (λ steps.
+    option_map (para conf prog steps) (only_end rows)) (schedule_in rows))
+asked_in name.List rows = with_text arg.PROG rows (λ prog.
+    Some (list prog (argument_flag arg.CAREFUL rows)))
+asked_in name.Sweep rows = with_text arg.JOBS rows (λ jobs.
+    with_number arg.JOB_WORKERS rows (λ workers. with_number arg.AT_ONCE rows (λ at_once.
+    option_map (sweep jobs workers at_once (argument_flag arg.PROGRESS rows)) (output_in rows))))
+asked_in name.Lib rows = with_text arg.NAME rows (λ program.
+    option_map lib (option_and_then (coordination program) (all_of arg.NUMBER.name.now rows)))
 
--- what the command of this name asks for
+-- the command of this name
+unfoldable pub command_among : {T R : Type 0} → (T → Text) → List (CommandRow T R) → Text
+    → Option CommandName
+command_among text rows word =
+    option_map (λ row. row.command) (find (λ row. bytes_eq (text row.name) word) rows)
+
+unfoldable pub command_named : Text → Option CommandName
+command_named = command_among (λ t. t.now) arg.COMMANDS
+
+-- what the command of this name is asked for
 abbrev pub named : Text → List Row → Option Asked
-named name rows = if bytes_eq name (codes "run") then run_in rows
-    else (if bytes_eq name (codes "order") then order_in rows
-    else (if bytes_eq name (codes "explain") then explain_in rows
-    else (if bytes_eq name (codes "list") then list_in rows
-    else (if bytes_eq name (codes "sweep") then sweep_in rows
-    else (if bytes_eq name (codes "lib") then option_map lib (lib_in rows) else None)))))
+named word rows = option_and_then (λ command. asked_in command rows) (command_named word)
 
 abbrev pub named_in : Option (Text × List Row) → Option Asked
 named_in = option_and_then (λ p. named p.0 p.1)
@@ -173,7 +280,7 @@ AreRunOf words conf prog =
 
 -- the run of these two paths by one worker, unless memory was refused
 abbrev pub IsRunOf : Text → Text → Parsed → Type 0
-IsRunOf conf prog (parsed.Invocation c) = asked_of c ≡ run conf prog 1
+IsRunOf conf prog (parsed.Invocation c) = asked_of c ≡ run conf prog 1 0 1000000 All
 IsRunOf conf prog (parsed.Help text) = ⊥
 IsRunOf conf prog (parsed.Version text) = ⊥
 IsRunOf conf prog (parsed.Usage text) = ⊥

@@ -1,73 +1,20 @@
--- the commands of the program and their words, as `clap` knows them
-use Rattle.std.specs.Prelude.{◌≡◌, ℕ, true, false, Some, [], ◌∷◌, codes}
-use Rattle.clap.specs.Words.{App, Rule, Text, app_of, new_app, new_rule, rule_of, with_rule, with_subcommand}
+-- the commands and their arguments, as `clap` knows them
+use Rattle.std.specs.Prelude.{◌≡◌, false, true, None, Option, Some, List, [], ◌∷◌, codes, fold}
+use Rattle.clap.specs.Words.{App, Rule, Text, app_of, new_app, new_rule, rule_of}
+use Rattle.clap.specs.Words.{with_rule, with_subcommand}
 use Rattle.clap.specs.declared.builder.Arg.{Arg}
 use Rattle.clap.specs.declared.builder.Command.{Command}
 use Rattle.clap.specs.declared.builder.Command.TheViews.{out-Command}
 use Rattle.clap.specs.declared.builder.ArgAction.TheVariants.{Append, SetTrue}
+use Rattle.clap.specs.declared.builder.ValueParser.{ValueParser}
 use Rattle.clap.specs.declared.builder.ValueParser.TheVariants as vp
-
--- an argument that has to be there
-abbrev pub argument : Text → Rule
-argument name = record (new_rule name) { required = true }
-
--- the option `--NAME NUMBER`, with a number from `least` to `most`
-abbrev pub option : Text → ℕ → ℕ → Rule
-option name least most =
-    record (new_rule name) {
-      long = Some name;
-      value_names = 1;
-      parser = Some (vp.Unsigned least most);
-    }
-
--- such an option that has to be there
-abbrev pub required_option : Text → ℕ → ℕ → Rule
-required_option name least most = record (option name least most) { required = true }
-
--- such an option, with the text of the number that it has where the words don't say it
-abbrev pub default_option : Text → ℕ → ℕ → Text → Rule
-default_option name least most text = record (option name least most) { defaults = text ∷ [] }
-
--- the option `--NAME`
-abbrev pub flag : Text → Rule
-flag name = record (new_rule name) { long = Some name; action = Some SetTrue }
-
--- a command on the settings and the program of a run
-abbrev pub on_a_run : Text → App
-on_a_run name =
-    with_rule (with_rule (new_app name) (argument (codes "CONF"))) (argument (codes "PROG"))
-
-abbrev pub run_app : App
-run_app = with_rule (on_a_run (codes "run")) (default_option (codes "workers") 1 64 (codes "1"))
-
-abbrev pub order_app : App
-order_app = on_a_run (codes "order")
-
-abbrev pub explain_app : App
-explain_app = with_rule (on_a_run (codes "explain"))
-    (default_option (codes "heap") 256 16777216 (codes "1048576"))
-
-abbrev pub list_app : App
-list_app = with_rule (new_app (codes "list")) (argument (codes "PROG"))
-
-abbrev pub sweep_app : App
-sweep_app = with_rule (with_rule (with_rule (with_rule (new_app (codes "sweep"))
-    (argument (codes "JOBS"))) (required_option (codes "workers") 1 64))
-    (required_option (codes "at-once") 1 64)) (flag (codes "progress"))
-
--- numbers of a register; at least one has to be there
-abbrev pub numbers_named : Text → Rule
-numbers_named name = record (argument name) {
-  parser = Some (vp.Unsigned 0 4294967295);
-  action = Some Append;
-}
-
--- the numbers of a coordination program
-abbrev pub number_rules : Rule
-number_rules = numbers_named (codes "NUMBER")
-
-abbrev pub lib_app : App
-lib_app = with_rule (with_rule (new_app (codes "lib")) (argument (codes "NAME"))) number_rules
+use Rattle.ultra_args.specs.declared.table.Argument.{Argument}
+use Rattle.ultra_args.specs.declared.table.ArgumentKind.{ArgumentKind}
+use Rattle.ultra_args.specs.declared.table.ArgumentKind.TheVariants as kind
+use Rattle.ultra_args.specs.declared.table.CommandRow.{CommandRow}
+use Rattle.ultra_args.specs.declared.table.Presence.{Presence}
+use Rattle.ultra_args.specs.declared.table.Presence.TheVariants.{Required, Optional, Default}
+use Rattle.ultra_args.specs.declared.table.TheConstants.{COMMANDS}
 
 -- a program that has a version, and that a command has to be named for
 abbrev pub program_app : App
@@ -75,11 +22,50 @@ program_app =
     let new = new_app (codes "ultra") in
     record new { top = record new.top { has_version = true; subcommand_required = true } }
 
+-- the option of this name with a value, which a parser accepts if there is one
+abbrev pub option_rule : Text → Option ValueParser → Rule
+option_rule name parser = record (new_rule name) {
+  long = Some name;
+  value_names = 1;
+  parser = parser;
+}
+
+-- A reference in a constant has another type than one in code: T is the type of a reference to a
+-- text, and R that of one to the arguments of a command
+module _ {T : Type 0} (text : T → Text) where
+  -- how an argument of this name and kind is read
+  abbrev pub kind_rule : Text → ArgumentKind T → Rule
+  kind_rule name kind.Text = new_rule name
+  kind_rule name kind.Numbers =
+      record (new_rule name) { parser = Some (vp.Unsigned 0 4294967295); action = Some Append }
+  kind_rule name (kind.Number number least most) = option_rule name (Some (vp.Unsigned least most))
+  kind_rule name (kind.Word word) = option_rule name None
+  kind_rule name kind.Flag = record (new_rule name) { long = Some name; action = Some SetTrue }
+
+  -- what holds where it isn't given
+  abbrev pub with_presence : Presence T → Rule → Rule
+  with_presence Required rule = record rule { required = true }
+  with_presence Optional rule = rule
+  with_presence (Default value) rule = record rule { defaults = text value ∷ [] }
+
+  abbrev pub rule_in : Argument T → Rule
+  rule_in a = with_presence a.presence (kind_rule (text a.name) a.kind)
+
+  abbrev pub with_arguments : App → List (Argument T) → App
+  with_arguments = fold (λ app a. with_rule app (rule_in a))
+
+  module _ {R : Type 0} (arguments : R → List (Argument T)) where
+    -- the command of a row
+    abbrev pub app_in : CommandRow T R → App
+    app_in row = with_arguments (new_app (text row.name)) (arguments row.arguments)
+
+    -- the program with these commands
+    abbrev pub program_in : List (CommandRow T R) → App
+    program_in = fold (λ app row. with_subcommand app (app_in row).top) program_app
+
 -- the command line of the program
-abbrev pub ultra_app : App
-ultra_app = with_subcommand (with_subcommand (with_subcommand (with_subcommand (with_subcommand
-    (with_subcommand program_app run_app.top) order_app.top) explain_app.top) list_app.top)
-    sweep_app.top) lib_app.top
+unfoldable pub ultra_app : App
+ultra_app = program_in (λ t. t.now) (λ r. r.now) COMMANDS
 
 -- the argument is read by this rule
 abbrev pub IsRead : Rule → Arg → Type 0

@@ -1,3 +1,2 @@
 pub mod Grammar
 pub mod Asked
-pub mod Table

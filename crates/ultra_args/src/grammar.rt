@@ -1,12 +1,12 @@
-//! The commands and their words, as `clap` knows them.
+//! The table of commands, as `clap` knows it.
 
 ghost use Rattle.std.specs.Prelude.{◌≡◌, IfOk};
 ghost use Rattle.clap.specs.Words.{new_app, new_rule};
-ghost use Rattle.ultra_args.specs.Grammar.{option, ultra_app, IsRead, IsApp};
-ghost use Rattle.ultra_args.specs.Table.{app_in, program_in, rule_in};
+ghost use Rattle.ultra_args.specs.Grammar.{app_in, kind_rule, program_in, rule_in, ultra_app};
+ghost use Rattle.ultra_args.specs.Grammar.{IsRead, IsApp};
 
 use crate::help::{self, Help};
-use crate::table::{Argument, COMMAND_NAMES, CommandName, CommandRow, Naming, row_of};
+use crate::table::{ArgumentKind, COMMANDS, Presence, TableArgument, TableRow};
 use clap::builder::ValueParser;
 use clap::{Arg, ArgAction, Command};
 use std::alloc::{AllocError, Global};
@@ -15,28 +15,28 @@ use std::alloc::{AllocError, Global};
 pub fn ultra_command<'c>(alloc: Global) -> Result<Command<'c>, AllocError>
     ensures { IfOk result (IsApp ultra_app) }
 {
-    program_with(alloc, &COMMAND_NAMES)
+    program_with(alloc, &COMMANDS)
 }
 
 /// The command line of the program with these commands.
-fn program_with<'c>(alloc: Global, command_names: &[CommandName]) -> Result<Command<'c>, AllocError>
-    ensures { IfOk result (IsApp (program_in command_names.now)) }
+fn program_with<'c>(alloc: Global, commands: &[TableRow]) -> Result<Command<'c>, AllocError>
+    ensures { IfOk result (IsApp (program_in (λ t. t.now) (λ r. r.now) commands.now)) }
 {
     let mut program = new_command(alloc, "ultra", help::ULTRA)
         .version(help::VERSION)
         .subcommand_required(true);
-    for command_name in command_names {
-        program = program.subcommand(command_of(alloc, row_of(*command_name))?)?;
+    for command in commands {
+        program = program.subcommand(command_of(alloc, command)?)?;
     }
     Ok(program)
 }
 
-/// The command of these words.
-fn command_of<'c>(alloc: Global, words: &CommandRow) -> Result<Command<'c>, AllocError>
-    ensures { IfOk result (IsApp (app_in words.now)) }
+/// The command of a row.
+fn command_of<'c>(alloc: Global, row: &TableRow) -> Result<Command<'c>, AllocError>
+    ensures { IfOk result (IsApp (app_in (λ t. t.now) (λ r. r.now) row.now)) }
 {
-    let mut command = new_command(alloc, words.name, words.help);
-    for argument in words.arguments {
+    let mut command = new_command(alloc, row.name, help::of_command(row.command));
+    for argument in row.arguments {
         command = command.arg(argument_of(alloc, argument))?;
     }
     Ok(command)
@@ -53,51 +53,44 @@ fn new_command<'c>(alloc: Global, name: &'c str, help: Help<'c>) -> Command<'c>
 }
 
 /// The argument as `clap` knows it.
-fn argument_of<'c>(alloc: Global, argument: &Argument) -> Arg<'c>
-    ensures { IsRead (rule_in argument.now) result }
+fn argument_of<'c>(alloc: Global, argument: &TableArgument) -> Arg<'c>
+    ensures { IsRead (rule_in (λ t. t.now) argument.now) result }
 {
-    match argument {
-        Argument::Text(naming) => named(alloc, *naming).required(true),
-        Argument::Numbers(naming) => named(alloc, *naming)
-            .required(true)
-            .value_parser(ValueParser::unsigned(0, u64::from(u32::MAX)))
-            .action(ArgAction::Append),
-        Argument::Number {
-            naming,
-            number,
-            least,
-            most,
-            default,
-        } => {
-            let option = option(alloc, *naming, number, *least, *most);
-            match default {
-                Some(text) => option.default_value(text),
-                None => option.required(true),
-            }
-        }
-        Argument::Flag(naming) => named(alloc, *naming)
-            .long(naming.name)
-            .action(ArgAction::SetTrue),
+    let given = of_kind(alloc, argument);
+    match argument.presence {
+        Presence::Required => given.required(true),
+        Presence::Optional => given,
+        Presence::Default(text) => given.default_value(text),
     }
 }
 
-/// The option `--NAME NUMBER` with a number from `least` to `most`.
-fn option<'c>(alloc: Global, naming: Naming, number: &'c str, least: u64, most: u64) -> Arg<'c>
-    ensures { IsRead (option naming.name.now least most) result }
+/// An argument of this name and kind, and its help.
+fn of_kind<'c>(alloc: Global, argument: &TableArgument) -> Arg<'c>
+    ensures { IsRead (kind_rule (λ t. t.now) argument.now.name.now argument.now.kind) result }
 {
-    named(alloc, naming)
-        .long(naming.name)
-        .value_name(number)
-        .value_parser(ValueParser::unsigned(least, most))
+    let name = argument.name;
+    let named = helped(alloc, name, argument.help);
+    match argument.kind {
+        ArgumentKind::Text => named,
+        ArgumentKind::Numbers => named
+            .value_parser(ValueParser::unsigned(0, 4_294_967_295))
+            .action(ArgAction::Append),
+        ArgumentKind::Number(number, least, most) => named
+            .long(name)
+            .value_name(number)
+            .value_parser(ValueParser::unsigned(least, most)),
+        ArgumentKind::Word(word) => named.long(name).value_name(word),
+        ArgumentKind::Flag => named.long(name).action(ArgAction::SetTrue),
+    }
 }
 
 /// An argument of this name, and its help.
-fn named<'c>(alloc: Global, naming: Naming) -> Arg<'c>
-    ensures { IsRead (new_rule naming.name.now) result }
+fn helped<'c>(alloc: Global, name: &'c str, help: &'c str) -> Arg<'c>
+    ensures { IsRead (new_rule name.entry.now) result }
 {
-    let argument = Arg::new(alloc, naming.name).help(naming.help);
-    match naming.in_full {
-        Some(text) => argument.long_help(text),
-        None => argument,
+    let argument = Arg::new(alloc, name);
+    match help.split_once("\n\n") {
+        Some((first, _)) => argument.help(first).long_help(help),
+        None => argument.help(help),
     }
 }

@@ -1,14 +1,8 @@
 //! How large the heap of the combining trees is.
 
-ghost use Rattle.std.specs.Prelude.{◌≡◌, ◌≤◌, ◌↔◌, IfSome, IsSome};
+ghost use Rattle.std.specs.Prelude.{◌≡◌, ◌≤◌};
 
 use std::marker::Model;
-
-/// The fewest bytes that the heap of the trees may have.
-const FEWEST_BYTES: usize = 256;
-
-/// The most bytes that it may have.
-const MOST_BYTES: usize = 16_777_216;
 
 /// The size of the heap of the combining trees: 256 to 16,777,216 bytes. Contracts see the number.
 ///
@@ -31,16 +25,14 @@ impl Model for HeapBytes {
 }
 
 impl HeapBytes {
-    /// A heap of `count` bytes, or `None` where `count` isn't 256 to 16,777,216.
-    pub(crate) fn new(count: usize) -> Option<HeapBytes>
-        ensures in_range { IsSome result ↔ ((256 ≤ count) × (count ≤ 16777216)) }
-        ensures value { IfSome result (λ h. h ≡ count) }
+    /// A heap of `count` bytes.
+    pub(crate) fn new(count: u64) -> HeapBytes
+        requires least { 256 ≤ count }
+        requires most { count ≤ 16777216 }
+        ensures { result ≡ count }
     {
-        if (FEWEST_BYTES..=MOST_BYTES).contains(&count) {
-            Some(HeapBytes { count })
-        } else {
-            None
-        }
+        let count = count as usize;
+        HeapBytes { count }
     }
 
     /// How many bytes.

@@ -1,5 +1,7 @@
 //! The texts of help and of the version. A line has at most 80 columns.
 
+use crate::table::CommandName;
+
 /// The texts of the help of a command.
 #[derive(Clone, Copy)]
 pub struct Help<'c> {
@@ -11,23 +13,28 @@ pub struct Help<'c> {
     pub more: &'c str,
 }
 
+/// The help of a command.
+pub fn of_command(command: CommandName) -> Help<'static> {
+    match command {
+        CommandName::Run => RUN,
+        CommandName::Events => EVENTS,
+        CommandName::Requests => REQUESTS,
+        CommandName::Measure => MEASURE,
+        CommandName::Order => ORDER,
+        CommandName::Explain => EXPLAIN,
+        CommandName::Check => CHECK,
+        CommandName::Para => PARA,
+        CommandName::List => LIST,
+        CommandName::Sweep => SWEEP,
+        CommandName::Lib => LIB,
+    }
+}
+
 /// The version of the program, and of its trace.
 pub const VERSION: &str = "1.0 (trace 2)";
 
-/// The help of the file of settings.
-pub const SETTINGS: &str = "The settings of the machine, a TOML file";
-
-/// The help of the program's file.
-pub const PROGRAM: &str = "The program of the processing elements, an assembler text";
-
-/// The help of the file of jobs.
-pub const JOBS: &str = "The settings and programs of the runs, a TOML file";
-
-/// The short help of the workers of a run.
-pub const WORKERS: &str = "How many threads make the cycles, 1 to 64";
-
-/// The long help of the workers of a run: what they gain and cost.
-pub const WORKERS_IN_FULL: &str = "\
+/// The help of the number of workers of a run: what they gain and cost.
+pub const WORKERS: &str = "\
 How many threads make the cycles, 1 to 64
 
 The trace is the same for every H. One worker is the fastest, and
@@ -37,11 +44,23 @@ on machines of up to six stages. Measured at six stages, 2 workers
 took some 7 times as long as 1, and 8 workers more than 100 times
 (bench/README.md).";
 
-/// The short help of the workers of a sweep.
-pub const JOB_WORKERS: &str = "How many threads do the jobs, 1 to 64";
+/// The help of the lines that are shown.
+pub const ONLY: &str = "\
+Which lines are shown
 
-/// The long help of the workers of a sweep: what they gain.
-pub const JOB_WORKERS_IN_FULL: &str = "\
+all     all lines of the cycles that are shown, and the end
+events  the lines of the events, and none of the state; and the end
+end     only the end";
+
+/// The help of the length of a window.
+pub const EVERY: &str = "\
+The number of cycles of a window, 1 to 1000000
+
+The measures are a table with a line for each window. Without this
+option the whole run is the one window.";
+
+/// The help of the number of workers of a sweep: what they gain.
+pub const JOB_WORKERS: &str = "\
 How many threads do the jobs, 1 to 64
 
 Each job is run by one thread, so a sweep gains by threads. Measured
@@ -49,41 +68,67 @@ on four processors, jobs of a tenth of a second were done 1.6 to 1.8
 times as fast by 2 threads as by 1, and 2.2 to 2.7 times by 4; jobs of
 some milliseconds gained little (bench/README.md).";
 
-/// The help of the bound on jobs that run at once.
-pub const AT_ONCE: &str = "How many jobs may run at once, 1 to 64";
-
-/// The help of the progress of a sweep.
-pub const PROGRESS: &str = "Shows on standard error how many jobs are finished";
-
-/// The short help of the heap of the trees.
-pub const HEAP: &str = "Bytes for the trees, 256 to 16777216";
-
-/// The long help of the heap of the trees: what has to fit.
-pub const HEAP_IN_FULL: &str = "\
+/// The help of the heap of the trees: what has to fit.
+pub const HEAP: &str = "\
 Bytes for the trees, 256 to 16777216
 
 Only the trees of requests that are on their way have to fit, so a
 longer run needs no larger heap.";
 
-/// The short help of the name of a coordination program.
-pub const NAME: &str = "gate (B T), queue (Z T), rw (G T) or barrier (T)";
+/// The help of the seed of a schedule.
+pub const SEED: &str = "\
+Chooses each PE at random, S 0 to 18446744073709551615
 
-/// The long help of the name of a coordination program: what each program is.
-pub const NAME_IN_FULL: &str = "\
-gate (B T), queue (Z T), rw (G T) or barrier (T)
+The same seed gives the same run. It ends once all PEs have stopped.";
+
+/// The help of the most steps.
+pub const STEPS: &str = "\
+The most steps with --seed, 0 to 4294967295
+
+Without this option, the number of cycles in CONF times the number of
+PEs.";
+
+/// The help of the test whether a program is careful.
+pub const CAREFUL: &str = "\
+Tests whether the program is careful
+
+A program is careful if `fence` directly follows each instruction that
+uses memory. Otherwise the status is 1, and standard error says which
+one it doesn't follow.";
+
+/// The help of the name of a coordination program: what each program is.
+pub const NAME: &str = "\
+gate (B T), queue (Z T), rw (G T), barrier (T) or tickets (T)
 
 gate B T   at most B PEs are inside at once, B 1 to 64
 queue Z T  a queue of 2^Z places, Z 0 to 6
 rw G T     PEs below G write and the others read, G 0 to 64
-barrier T  all PEs wait for one another";
+barrier T  all PEs wait for one another
+tickets T  each ticket goes to one PE";
 
-/// The short help of the numbers of a coordination program.
-pub const NUMBERS: &str = "The size that the program is for, and the number T of rounds";
+/// The help of the numbers of a coordination program: their ranges.
+pub const NUMBER: &str = "\
+The size that the program is for, and the number T of rounds
 
-/// The long help of the numbers of a coordination program: their ranges.
-pub const NUMBERS_IN_FULL: &str = "\
-The size that the program is for (a barrier has none), and the number
-T of rounds, 1 to 1000. Each number is in decimal digits.";
+A barrier and tickets have no size. T is 1 to 1000. Each number is in
+decimal digits.";
+
+/// What is said where the arguments ask for nothing, though each is right by itself.
+pub const WANTS_COMMAND: &str = "invalid arguments";
+
+/// What `run` wants.
+pub const RUN_WANTS: &str = "--only is all, events or end";
+
+/// What `para` wants.
+pub const PARA_WANTS: &str = "the steps come from SCHEDULE or from --seed S, and not from both; \
+                              --steps T belongs to --seed; --only is all or end";
+
+/// What `sweep` wants.
+pub const SWEEP_WANTS: &str = "--every E belongs to --measure";
+
+/// What `lib` wants.
+pub const LIB_WANTS: &str = "the coordination programs are gate B T, queue Z T, rw G T, barrier T \
+                             and tickets T, with each number in decimal digits";
 
 /// The help of the program.
 pub const ULTRA: Help<'static> = Help {
@@ -97,11 +142,12 @@ what each command reads and writes.",
     more: "\
 Statuses:
   0  done; also where help or the version was asked for
-  2  the words of the command line are wrong
+  1  `check`: the list isn't legal; `list --careful`: the program isn't careful
+  2  the arguments are invalid
   3  a file can't be read or is refused, or a parameter is out of its range
   4  memory or a thread was refused, or the heap of the trees is full
-  5  standard output refused bytes
-Where the status isn't 0, standard error says why.
+  5  writing failed
+Where the status is 2 or more, standard error says why.
 
 Example:
 
@@ -119,14 +165,15 @@ Writes the trace of a run
 
 CONF is read first. Once both files are accepted, the trace goes to standard
 output: for each cycle the replies, the memory acts and all that waits, and at
-the end the cells and the processing elements (PEs).",
+the end the cells and the processing elements (PEs). With --from, --to or
+--only, a part of the trace is written.",
     more: "\
 Statuses:
-  0  the whole trace is written
-  2  the words of the command line are wrong
+  0  the trace, or the part of it, is written
+  2  the arguments are invalid
   3  a file can't be read or is refused; nothing is written
   4  memory or a thread was refused; at most a prefix of the trace is written
-  5  standard output refused bytes, after a prefix of the trace
+  5  writing failed, after a prefix of the trace
 Where the status isn't 0, standard error says why.
 
 Example, two PEs that add 1 to one cell:
@@ -154,15 +201,15 @@ pub const ORDER: Help<'static> = Help {
 Writes the serial order of a run
 
 CONF is read first. Once both files are accepted, the order goes to standard
-output: a line for each request that was served. One after the other, the
-requests give the replies and the cells of the run.",
+output: a line for each request that was served. In this order, the requests
+give the replies and the cells of the run.",
     more: "\
 Statuses:
   0  the whole order is written
-  2  the words of the command line are wrong
+  2  the arguments are invalid
   3  a file can't be read or is refused; nothing is written
   4  memory was refused; at most a prefix of the order is written
-  5  standard output refused bytes, after a prefix of the order
+  5  writing failed, after a prefix of the order
 Where the status isn't 0, standard error says why.
 
 Example, two PEs that add 1 to one cell (PE 1 comes first and gets 0):
@@ -186,10 +233,10 @@ stood for and where they combined.",
     more: "\
 Statuses:
   0  all trees are written
-  2  the words of the command line are wrong
+  2  the arguments are invalid
   3  a file can't be read or is refused; nothing is written
   4  memory was refused, or the heap is full, after a prefix of the text
-  5  standard output refused bytes, after a prefix of the text
+  5  writing failed, after a prefix of the text
 Where the status isn't 0, standard error says why.
 
 Example, two PEs whose requests combine at stage 0, position 0:
@@ -211,10 +258,11 @@ instruction a line, words separated by a blank, and jumps to labels `Lk`.",
     more: "\
 Statuses:
   0  the whole text is written
-  2  the words of the command line are wrong
+  1  with --careful: an instruction that uses memory isn't followed by `fence`
+  2  the arguments are invalid
   3  the file can't be read or is refused; nothing is written
   4  memory was refused; nothing is written
-  5  standard output refused bytes, after a prefix of the text
+  5  writing failed, after a prefix of the text
 Where the status isn't 0, standard error says why.
 
 Example:
@@ -230,21 +278,22 @@ docs/FORMATS.md lists the instructions and the faults of a program.",
 
 /// The help of `sweep`.
 pub const SWEEP: Help<'static> = Help {
-    about: "Writes the traces of many runs, one after the other",
+    about: "Writes the traces of many runs, in order",
     detail: "\
-Writes the traces of many runs, one after the other
+Writes the traces of many runs, in order
 
 JOBS is read first, and then the settings and the program of each job. Once all
 files are accepted, the jobs are run, and the report goes to standard output:
 for each job the line `job I` and the trace of its run, in the order of JOBS.
-The report is the same for every H and B.",
+With --measure, it is a table of the measures of each job. The output is the
+same for every H and B.",
     more: "\
 Statuses:
   0  the whole report is written
-  2  the words of the command line are wrong
+  2  the arguments are invalid
   3  a file can't be read or is refused; nothing is written
   4  memory or a thread was refused; nothing of the report is written
-  5  standard output refused bytes, after a prefix of the report
+  5  writing failed, after a prefix of the report
 Where the status isn't 0, standard error says why.
 
 Example, two jobs by two threads:
@@ -271,10 +320,10 @@ standard output. It is a program for `run`.",
     more: "\
 Statuses:
   0  the whole text is written
-  2  the words of the command line are wrong
+  2  the arguments are invalid
   3  a parameter is out of its range; nothing is written
   4  memory was refused; nothing is written
-  5  standard output refused bytes, after a prefix of the text
+  5  writing failed, after a prefix of the text
 Where the status isn't 0, standard error says why.
 
 Example, a barrier that is passed once:
@@ -286,4 +335,149 @@ Example, a barrier that is passed once:
     halt
 
 docs/COORDINATION.md says what the programs do and which law each keeps.",
+};
+
+/// The help of `events`.
+pub const EVENTS: Help<'static> = Help {
+    about: "Writes the events of a run",
+    detail: "\
+Writes the events of a run
+
+CONF is read first. Once both files are accepted, the events go to standard
+output, a line for each: answers, memory acts, combinations, issues and faults.
+P.N@A is request N of PE P, to cell A.",
+    more: "\
+Statuses:
+  0  all events are written
+  2  the arguments are invalid
+  3  a file can't be read or is refused; nothing is written
+  4  memory was refused; at most a prefix of the events is written
+  5  writing failed, after a prefix of the events
+Where the status isn't 0, standard error says why.
+
+Example, two PEs that add 1 to one cell:
+
+    $ cd examples/combined_pair && ultra events conf.toml prog.s
+    2 issue 0.0@0 faa 1
+    2 issue 1.0@0 faa 1
+    3 combine s0x0 1.0@0 < 0.0@0
+    5 act 0 1.0@0 faa 2 = 0 now 2
+    7 answer 0.0@0 = 1
+    7 answer 1.0@0 = 0
+
+docs/FORMATS.md lists the settings, the instructions and what a line says.",
+};
+
+/// The help of `requests`.
+pub const REQUESTS: Help<'static> = Help {
+    about: "Writes the requests of a run as a table",
+    detail: "\
+Writes the requests of a run as a table
+
+CONF is read first. Once both files are accepted, the table goes to standard
+output in CSV, a row for each request: those that were answered by the cycle of
+the answer, and then the others.",
+    more: "\
+Statuses:
+  0  the whole table is written
+  2  the arguments are invalid
+  3  a file can't be read or is refused; nothing is written
+  4  memory was refused; at most a prefix of the table is written
+  5  writing failed, after a prefix of the table
+Where the status isn't 0, standard error says why.
+
+Example, two PEs that add 1 to one cell:
+
+    $ cd examples/combined_pair && ultra requests conf.toml prog.s
+    pe,number,op,cell,word,issued,answered,reply
+    0,0,faa,0,1,2,7,1
+    1,0,faa,0,1,2,7,0
+
+docs/FORMATS.md lists the settings, the instructions and the columns.",
+};
+
+/// The help of `measure`.
+pub const MEASURE: Help<'static> = Help {
+    about: "Writes the measures of a run",
+    detail: "\
+Writes the measures of a run
+
+CONF is read first. Once both files are accepted, the measures go to standard
+output: numbers of events, latencies, and how full the machine was. There is a
+line `NAME VALUE` for each, or with --csv or --every a table.",
+    more: "\
+Statuses:
+  0  all measures are written
+  2  the arguments are invalid
+  3  a file can't be read or is refused; nothing is written
+  4  memory was refused; at most a prefix of the measures is written
+  5  writing failed, after a prefix of the measures
+Where the status isn't 0, standard error says why.
+
+Example, two PEs that add 1 to one cell:
+
+    $ cd examples/combined_pair && ultra measure conf.toml prog.s | grep lat
+    latency_least 5
+    latency_greatest 5
+    latency_mean 5.000
+
+docs/FORMATS.md lists the settings, the instructions and the measures.",
+};
+
+/// The help of `check`.
+pub const CHECK: Help<'static> = Help {
+    about: "Checks whether a list is a serial order of a run",
+    detail: "\
+Checks whether a list is a serial order of a run
+
+CONF is read first, then PROG, then LIST. Once all are accepted, the list is
+checked against the requests, the replies and the cells of the run. Standard
+output says `legal`, or where the list first breaks the law.",
+    more: "\
+Statuses:
+  0  the list is legal
+  1  it isn't: standard output says where
+  2  the arguments are invalid
+  3  a file can't be read or is refused; nothing is written
+  4  memory was refused; at most a prefix of the text is written
+  5  writing failed, after a prefix of the text
+Where the status is 2 or more, standard error says why.
+
+Example, the order that `ultra order` writes:
+
+    $ cd examples/combined_pair && ultra check conf.toml prog.s order
+    legal
+
+docs/FORMATS.md lists the settings, the instructions and the form of a list.",
+};
+
+/// The help of `para`.
+pub const PARA: Help<'static> = Help {
+    about: "Writes a run of the paracomputer",
+    detail: "\
+Writes a run of the paracomputer
+
+In each step one PE makes one instruction, and its memory act is done at once.
+CONF is read first, then PROG, then SCHEDULE. Once all are accepted, the memory
+acts go to standard output, and the cells and the PEs at the end.",
+    more: "\
+Statuses:
+  0  the whole text is written
+  2  the arguments are invalid
+  3  a file can't be read or is refused; nothing is written
+  4  memory was refused; at most a prefix of the text is written
+  5  writing failed, after a prefix of the text
+Where the status isn't 0, standard error says why.
+
+Example, two PEs that add 1 to one cell:
+
+    $ cd examples/combined_pair && ultra para conf.toml prog.s --seed 1
+    1.0 faa 0 1 = 0
+    0.0 faa 0 1 = 1
+    end steps 10 stopped
+    cell 0 2
+    pe 0 halted 3 r2=1 r3=1
+    pe 1 halted 3 r2=1
+
+docs/FORMATS.md lists the settings, the instructions and what a line says.",
 };

@@ -1,11 +1,8 @@
 //! How many jobs of a sweep may run at once.
 
-ghost use Rattle.std.specs.Prelude.{◌≡◌, ◌≤◌, ◌↔◌, IfSome, IsSome};
+ghost use Rattle.std.specs.Prelude.{◌≡◌, ◌≤◌};
 
 use std::marker::Model;
-
-/// The most jobs that a sweep may run at once.
-const MOST_AT_ONCE: usize = 64;
 
 /// How many jobs of a sweep may run at once, 1 to 64. Contracts see the number.
 ///
@@ -28,16 +25,14 @@ impl Model for JobsAtOnce {
 }
 
 impl JobsAtOnce {
-    /// `count` jobs at once, or `None` where `count` isn't 1 to 64.
-    pub(crate) fn new(count: usize) -> Option<JobsAtOnce>
-        ensures in_range { IsSome result ↔ ((1 ≤ count) × (count ≤ 64)) }
-        ensures value { IfSome result (λ j. j ≡ count) }
+    /// `count` jobs at once.
+    pub(crate) fn new(count: u64) -> JobsAtOnce
+        requires least { 1 ≤ count }
+        requires most { count ≤ 64 }
+        ensures { result ≡ count }
     {
-        if (1..=MOST_AT_ONCE).contains(&count) {
-            Some(JobsAtOnce { count })
-        } else {
-            None
-        }
+        let count = count as usize;
+        JobsAtOnce { count }
     }
 
     /// How many, 1 to 64.

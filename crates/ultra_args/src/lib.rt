@@ -6,7 +6,9 @@ mod heap;
 mod help;
 mod jobs_at_once;
 mod reading;
+mod sweep_output;
 mod table;
+mod window_cycles;
 mod workers;
 
 ghost use Rattle.std.specs.Prelude.{◌≡◌, ◌≢◌, [], codes, map, option_map, IfOk, MatchResult};
@@ -20,21 +22,59 @@ use clap::error::ErrorKind;
 use grammar::ultra_command;
 pub use heap::HeapBytes;
 pub use jobs_at_once::JobsAtOnce;
-use reading::named_command;
+use reading::{named_command, wanted_by};
 use std::alloc::{AllocError, Global};
+pub use sweep_output::SweepOutput;
+pub use window_cycles::WindowCycles;
 pub use workers::Workers;
 
 /// What the program is asked to do.
 #[derive(Clone, Copy, Drop)]
 pub enum Invocation<'w> {
-    /// To write the trace of a run: `ultra run CONF PROG [--workers H]`.
+    /// To write the trace of a run:
+    /// `ultra run CONF PROG [--workers H] [--from A] [--to B] [--only all|events|end]`.
     Run {
         /// The path of the settings.
         settings: &'w str,
         /// The path of the program's text.
         program: &'w str,
-        /// How many threads of the host make the cycles, 1 to 64: 1 where the words don't say.
+        /// How many threads of the host make the cycles, 1 to 64: 1 where no number is given.
         workers: Workers,
+        /// The first cycle that is shown: 0 where no number is given.
+        from: u32,
+        /// The last cycle that is shown: 1,000,000 where no number is given.
+        to: u32,
+        /// Which lines of these cycles are shown.
+        only: LineFilter,
+    },
+    /// To write the events of a run: `ultra events CONF PROG [--from A] [--to B]`.
+    Events {
+        /// The path of the settings.
+        settings: &'w str,
+        /// The path of the program's text.
+        program: &'w str,
+        /// The first cycle that is shown: 0 where no number is given.
+        from: u32,
+        /// The last cycle that is shown: 1,000,000 where no number is given.
+        to: u32,
+    },
+    /// To write the requests of a run as a table: `ultra requests CONF PROG`.
+    Requests {
+        /// The path of the settings.
+        settings: &'w str,
+        /// The path of the program's text.
+        program: &'w str,
+    },
+    /// To write the measures of a run: `ultra measure CONF PROG [--csv] [--every E]`.
+    Measure {
+        /// The path of the settings.
+        settings: &'w str,
+        /// The path of the program's text.
+        program: &'w str,
+        /// Whether the values are a table, separated by commas.
+        csv: bool,
+        /// The length of a window. Where no number is given, the whole run is the one window.
+        every: Option<WindowCycles>,
     },
     /// To write the serial order of a run: `ultra order CONF PROG`.
     Order {
@@ -50,15 +90,39 @@ pub enum Invocation<'w> {
         settings: &'w str,
         /// The path of the program's text.
         program: &'w str,
-        /// The size of the heap of the trees: 1,048,576 bytes where the words don't say.
+        /// The size of the heap of the trees: 1,048,576 bytes where no number is given.
         heap: HeapBytes,
     },
-    /// To write the canonical text of a program: `ultra list PROG`.
+    /// To check whether a list is a serial order of a run: `ultra check CONF PROG LIST`.
+    Check {
+        /// The path of the settings.
+        settings: &'w str,
+        /// The path of the program's text.
+        program: &'w str,
+        /// The path of the list.
+        list: &'w str,
+    },
+    /// To write the run of the paracomputer by a schedule:
+    /// `ultra para CONF PROG (SCHEDULE | --seed S [--steps T]) [--only all|end]`.
+    Para {
+        /// The path of the settings.
+        settings: &'w str,
+        /// The path of the program's text.
+        program: &'w str,
+        /// Where the steps come from.
+        schedule: ScheduleOf<'w>,
+        /// Whether only the end is shown.
+        only_end: bool,
+    },
+    /// To write the canonical text of a program: `ultra list [--careful] PROG`.
     List {
         /// The path of the program's text.
         program: &'w str,
+        /// Whether it is reported that the program isn't careful.
+        careful: bool,
     },
-    /// To write the traces of many runs: `ultra sweep JOBS --workers H --at-once B [--progress]`.
+    /// To write the traces or the measures of many runs: `ultra sweep JOBS --workers H --at-once B
+    /// [--progress] [--measure [--every E]]`.
     Sweep {
         /// The path of the file of jobs.
         jobs: &'w str,
@@ -68,9 +132,36 @@ pub enum Invocation<'w> {
         at_once: JobsAtOnce,
         /// Whether standard error shows how many jobs are finished.
         progress: bool,
+        /// What is written.
+        output: SweepOutput,
     },
     /// To write the canonical text of a coordination program: `ultra lib NAME NUMBER..`.
     Lib(Coordination),
+}
+
+/// Which lines of the cycles are shown: `--only`.
+#[derive(Clone, Copy)]
+pub enum LineFilter {
+    /// All lines.
+    All,
+    /// The lines of the events, and none of the state.
+    Events,
+    /// No line of a cycle: only the end is shown.
+    End,
+}
+
+/// Where the steps of a paracomputer come from.
+#[derive(Clone, Copy, Drop)]
+pub enum ScheduleOf<'w> {
+    /// A file of PE numbers.
+    File(&'w str),
+    /// A generator of random numbers.
+    Seed {
+        /// Its first state.
+        seed: u64,
+        /// The most steps, if a number is given.
+        steps: Option<u32>,
+    },
 }
 
 /// A coordination program with its parameters as the words give them: they may be out of range. The
@@ -85,6 +176,8 @@ pub enum Coordination {
     ReadersWriters { writers: u32, rounds: u32 },
     /// A barrier: `ultra lib barrier T`.
     Barrier { rounds: u32 },
+    /// Tickets, each of which one PE gets: `ultra lib tickets T`.
+    Tickets { rounds: u32 },
 }
 
 /// What the words of a command line ask for.
@@ -160,28 +253,25 @@ fn read_words<'w>(
 ) -> Result<Invocation<'w>, clap::Error>
     ensures { IsApp ultra_app ultra.old → IsAnswer (map (λ w. w.now) words.entry.now) result }
 {
-    match matched_command(ultra, words)? {
+    let (command, wanted) = matched_command(ultra, words)?;
+    match command {
         Some(command) => Ok(command),
-        None => Err(ultra.error(
-            ErrorKind::ValueValidation,
-            "the coordination programs are gate B T, queue Z T, rw G T and barrier T, with each \
-             number in decimal digits",
-        )?),
+        None => Err(ultra.error(ErrorKind::ValueValidation, wanted)?),
     }
 }
 
-/// The command that the words name, if `clap` accepts them.
+/// The command that the words name, if `clap` accepts them, and what the command wants.
 fn matched_command<'w>(
     ultra: &mut clap::Command<'w>,
     words: &'w [&'w str],
-) -> Result<Option<Invocation<'w>>, clap::Error>
+) -> Result<(Option<Invocation<'w>>, &'static str), clap::Error>
     ensures { IsApp ultra_app ultra.old → MatchResult result
-        (λ o. (fault_of ultra_app (map (λ w. w.now) words.entry.now) ≡ [])
-        × (option_map asked_of o ≡ asked (map (λ w. w.now) words.entry.now)))
+        (λ found. (fault_of ultra_app (map (λ w. w.now) words.entry.now) ≡ [])
+        × (option_map asked_of found.0 ≡ asked (map (λ w. w.now) words.entry.now)))
         (HasKind (fault_of ultra_app (map (λ w. w.now) words.entry.now))) }
 {
     match ultra.try_get_matches_from_mut(words) {
-        Ok(matches) => Ok(named_command(&matches)),
+        Ok(matches) => Ok((named_command(&matches), wanted_by(&matches))),
         Err(error) => Err(error),
     }
 }

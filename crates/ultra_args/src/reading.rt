@@ -1,112 +1,302 @@
-//! The command that the words name, once `clap` has accepted them.
+//! What accepted arguments ask for.
 
-ghost use Rattle.std.specs.Prelude.{◌≡◌, codes, map, option_map};
+ghost use Rattle.std.specs.Prelude.{◌≡◌, map, option_map, IfSome};
 ghost use Rattle.clap.specs.Words.{all_of, first_of, found_of, rows_of, subcommand_rows_of};
-ghost use Rattle.ultra_args.specs.Asked as asked;
-ghost use Rattle.ultra_args.specs.Asked.{asked_of, decimal, is_set, named, named_in};
-ghost use Rattle.ultra_args.specs.Asked.{option_number, number_within, sized, unsized};
+ghost use Rattle.ultra_args.specs.Asked as spec;
+ghost use Rattle.ultra_args.specs.Asked.{asked_of, decimal, given_number, is_set, named, named_in};
+ghost use Rattle.ultra_args.specs.Asked.{number_of, schedule_of, sized, sizeless, IsInRange};
 
-use crate::{Coordination, HeapBytes, Invocation, JobsAtOnce, Workers};
+use crate::table::{
+    ALL_OR_END, AT_ONCE, ArgumentKind, CAREFUL, COMMANDS, CONF, CSV, CommandName, EVERY, FROM,
+    HEAP, JOB_WORKERS, JOBS, LIST, MEASURES, NAME, NUMBER, ONLY, PROG, PROGRESS, SCHEDULE, SEED,
+    STEPS, TO, TableArgument, TableRow, WORKERS,
+};
+use crate::{
+    Coordination, HeapBytes, Invocation, JobsAtOnce, LineFilter, ScheduleOf, SweepOutput,
+    WindowCycles, Workers, help,
+};
 use clap::ArgMatches;
 
-/// The command that accepted words name, or `None` where they name none.
+/// What accepted arguments ask for, or `None` where they ask for nothing.
 pub fn named_command<'w>(matches: &ArgMatches<'w>) -> Option<Invocation<'w>>
     ensures { option_map asked_of result ≡ named_in (subcommand_rows_of matches.now) }
 {
     let (name, words) = matches.subcommand()?;
-    command_in(name, words)
+    invocation_named(name, words)
 }
 
-/// The command of this name with the words that follow it.
-fn command_in<'w>(name: &str, words: &ArgMatches<'w>) -> Option<Invocation<'w>>
+/// What the command of this name is asked for by its arguments.
+fn invocation_named<'w>(name: &str, words: &ArgMatches<'w>) -> Option<Invocation<'w>>
     ensures { option_map asked_of result ≡ named name.now (rows_of (found_of words.now)) }
 {
-    if name == "run" {
-        run_in(words)
-    } else if name == "order" {
-        order_in(words)
-    } else if name == "explain" {
-        explain_in(words)
-    } else if name == "list" {
-        list_in(words)
-    } else if name == "sweep" {
-        sweep_in(words)
-    } else if name == "lib" {
-        lib_in(words)
+    asked_in(command_named(name)?, words)
+}
+
+/// What the command wants of its arguments besides the table.
+pub fn wanted_by(matches: &ArgMatches<'_>) -> &'static str {
+    let Some((name, _)) = matches.subcommand() else {
+        return help::WANTS_COMMAND;
+    };
+    match command_named(name) {
+        Some(CommandName::Run) => help::RUN_WANTS,
+        Some(CommandName::Para) => help::PARA_WANTS,
+        Some(CommandName::Sweep) => help::SWEEP_WANTS,
+        Some(CommandName::Lib) => help::LIB_WANTS,
+        _ => help::WANTS_COMMAND,
+    }
+}
+
+/// The command of this name.
+fn command_named(name: &str) -> Option<CommandName>
+    ensures { result ≡ spec.command_named name.now }
+{
+    command_among(&COMMANDS, name)
+}
+
+/// The command of this name in these rows.
+#[tactic(auto, unfolding(crate::specs::Asked::command_among))]
+fn command_among(rows: &[TableRow], name: &str) -> Option<CommandName>
+    ensures { result ≡ spec.command_among (λ t. t.now) rows.now name.now }
+{
+    let row = rows.iter().find(|row| row.name == name)?;
+    Some(row.command)
+}
+
+/// What the command is asked for by its arguments.
+fn asked_in<'w>(command: CommandName, words: &ArgMatches<'w>) -> Option<Invocation<'w>>
+    ensures { option_map asked_of result ≡ spec.asked_in command (rows_of (found_of words.now)) }
+{
+    match command {
+        CommandName::Run => run(words),
+        CommandName::Events => events(words),
+        CommandName::Requests => requests(words),
+        CommandName::Measure => measure(words),
+        CommandName::Order => order(words),
+        CommandName::Explain => explain(words),
+        CommandName::Check => check(words),
+        CommandName::Para => para(words),
+        CommandName::List => list(words),
+        CommandName::Sweep => sweep(words),
+        CommandName::Lib => lib(words),
+    }
+}
+
+/// What `run` is asked for.
+fn run<'w>(words: &ArgMatches<'w>) -> Option<Invocation<'w>>
+    ensures { option_map asked_of result
+        ≡ spec.asked_in CommandName.Run (rows_of (found_of words.now)) }
+{
+    let (from, to) = cycles(words)?;
+    Some(Invocation::Run {
+        settings: text(words, &CONF)?,
+        program: text(words, &PROG)?,
+        workers: Workers::new(number(words, &WORKERS)?),
+        from,
+        to,
+        only: line_filter(words)?,
+    })
+}
+
+/// What `events` is asked for.
+fn events<'w>(words: &ArgMatches<'w>) -> Option<Invocation<'w>>
+    ensures { option_map asked_of result
+        ≡ spec.asked_in CommandName.Events (rows_of (found_of words.now)) }
+{
+    let (from, to) = cycles(words)?;
+    Some(Invocation::Events {
+        settings: text(words, &CONF)?,
+        program: text(words, &PROG)?,
+        from,
+        to,
+    })
+}
+
+/// What `requests` is asked for.
+fn requests<'w>(words: &ArgMatches<'w>) -> Option<Invocation<'w>>
+    ensures { option_map asked_of result
+        ≡ spec.asked_in CommandName.Requests (rows_of (found_of words.now)) }
+{
+    Some(Invocation::Requests {
+        settings: text(words, &CONF)?,
+        program: text(words, &PROG)?,
+    })
+}
+
+/// What `measure` is asked for.
+fn measure<'w>(words: &ArgMatches<'w>) -> Option<Invocation<'w>>
+    ensures { option_map asked_of result
+        ≡ spec.asked_in CommandName.Measure (rows_of (found_of words.now)) }
+{
+    Some(Invocation::Measure {
+        settings: text(words, &CONF)?,
+        program: text(words, &PROG)?,
+        csv: is_set(words, &CSV),
+        every: every(words),
+    })
+}
+
+/// What `order` is asked for.
+fn order<'w>(words: &ArgMatches<'w>) -> Option<Invocation<'w>>
+    ensures { option_map asked_of result
+        ≡ spec.asked_in CommandName.Order (rows_of (found_of words.now)) }
+{
+    Some(Invocation::Order {
+        settings: text(words, &CONF)?,
+        program: text(words, &PROG)?,
+    })
+}
+
+/// What `explain` is asked for.
+fn explain<'w>(words: &ArgMatches<'w>) -> Option<Invocation<'w>>
+    ensures { option_map asked_of result
+        ≡ spec.asked_in CommandName.Explain (rows_of (found_of words.now)) }
+{
+    Some(Invocation::Explain {
+        settings: text(words, &CONF)?,
+        program: text(words, &PROG)?,
+        heap: HeapBytes::new(number(words, &HEAP)?),
+    })
+}
+
+/// What `check` is asked for.
+fn check<'w>(words: &ArgMatches<'w>) -> Option<Invocation<'w>>
+    ensures { option_map asked_of result
+        ≡ spec.asked_in CommandName.Check (rows_of (found_of words.now)) }
+{
+    Some(Invocation::Check {
+        settings: text(words, &CONF)?,
+        program: text(words, &PROG)?,
+        list: text(words, &LIST)?,
+    })
+}
+
+/// What `para` is asked for.
+fn para<'w>(words: &ArgMatches<'w>) -> Option<Invocation<'w>>
+    ensures { option_map asked_of result
+        ≡ spec.asked_in CommandName.Para (rows_of (found_of words.now)) }
+{
+    Some(Invocation::Para {
+        settings: text(words, &CONF)?,
+        program: text(words, &PROG)?,
+        schedule: schedule(words)?,
+        only_end: only_end(words)?,
+    })
+}
+
+/// What `list` is asked for.
+fn list<'w>(words: &ArgMatches<'w>) -> Option<Invocation<'w>>
+    ensures { option_map asked_of result
+        ≡ spec.asked_in CommandName.List (rows_of (found_of words.now)) }
+{
+    Some(Invocation::List {
+        program: text(words, &PROG)?,
+        careful: is_set(words, &CAREFUL),
+    })
+}
+
+/// What `sweep` is asked for.
+fn sweep<'w>(words: &ArgMatches<'w>) -> Option<Invocation<'w>>
+    ensures { option_map asked_of result
+        ≡ spec.asked_in CommandName.Sweep (rows_of (found_of words.now)) }
+{
+    Some(Invocation::Sweep {
+        jobs: text(words, &JOBS)?,
+        workers: Workers::new(number(words, &JOB_WORKERS)?),
+        at_once: JobsAtOnce::new(number(words, &AT_ONCE)?),
+        progress: is_set(words, &PROGRESS),
+        output: output(words)?,
+    })
+}
+
+/// What `lib` is asked for.
+fn lib<'w>(words: &ArgMatches<'w>) -> Option<Invocation<'w>>
+    ensures { option_map asked_of result
+        ≡ spec.asked_in CommandName.Lib (rows_of (found_of words.now)) }
+{
+    let name = text(words, &NAME)?;
+    let numbers = texts(words, &NUMBER)?;
+    Some(Invocation::Lib(coordination(name, numbers)?))
+}
+
+/// The first and the last cycle that are shown.
+fn cycles(words: &ArgMatches<'_>) -> Option<(u32, u32)>
+    ensures { result ≡ spec.cycles_in (rows_of (found_of words.now)) }
+{
+    Some((number(words, &FROM)? as u32, number(words, &TO)? as u32))
+}
+
+/// Which lines of the cycles are shown.
+fn line_filter(words: &ArgMatches<'_>) -> Option<LineFilter>
+    ensures { result ≡ spec.line_filter (rows_of (found_of words.now)) }
+{
+    let word = text(words, &ONLY)?;
+    if word == "all" {
+        Some(LineFilter::All)
+    } else if word == "events" {
+        Some(LineFilter::Events)
+    } else if word == "end" {
+        Some(LineFilter::End)
     } else {
         None
     }
 }
 
-/// The command `run` with the words that follow it.
-fn run_in<'w>(words: &ArgMatches<'w>) -> Option<Invocation<'w>>
-    ensures { option_map asked_of result ≡ asked.run_in (rows_of (found_of words.now)) }
+/// Whether only the end is shown.
+fn only_end(words: &ArgMatches<'_>) -> Option<bool>
+    ensures { result ≡ spec.only_end (rows_of (found_of words.now)) }
 {
-    Some(Invocation::Run {
-        settings: text(words, "CONF")?,
-        program: text(words, "PROG")?,
-        workers: workers(words)?,
-    })
+    let word = text(words, &ALL_OR_END)?;
+    if word == "all" {
+        Some(false)
+    } else if word == "end" {
+        Some(true)
+    } else {
+        None
+    }
 }
 
-/// The command `order` with the words that follow it.
-fn order_in<'w>(words: &ArgMatches<'w>) -> Option<Invocation<'w>>
-    ensures { option_map asked_of result ≡ asked.order_in (rows_of (found_of words.now)) }
+/// Where the steps come from: a file or a seed, and not both.
+fn schedule<'w>(words: &ArgMatches<'w>) -> Option<ScheduleOf<'w>>
+    ensures { option_map schedule_of result ≡ spec.schedule_in (rows_of (found_of words.now)) }
 {
-    Some(Invocation::Order {
-        settings: text(words, "CONF")?,
-        program: text(words, "PROG")?,
-    })
+    match (text(words, &SCHEDULE), number(words, &SEED), steps(words)) {
+        (Some(path), None, None) => Some(ScheduleOf::File(path)),
+        (None, Some(seed), steps) => Some(ScheduleOf::Seed { seed, steps }),
+        _ => None,
+    }
 }
 
-/// The command `explain` with the words that follow it.
-fn explain_in<'w>(words: &ArgMatches<'w>) -> Option<Invocation<'w>>
-    ensures { option_map asked_of result ≡ asked.explain_in (rows_of (found_of words.now)) }
+/// The most steps, if a number is given.
+fn steps(words: &ArgMatches<'_>) -> Option<u32>
+    ensures { result ≡ number_of STEPS.name.now STEPS.kind (rows_of (found_of words.now)) }
 {
-    Some(Invocation::Explain {
-        settings: text(words, "CONF")?,
-        program: text(words, "PROG")?,
-        heap: heap(words)?,
-    })
+    Some(number(words, &STEPS)? as u32)
 }
 
-/// The command `list` with the words that follow it.
-fn list_in<'w>(words: &ArgMatches<'w>) -> Option<Invocation<'w>>
-    ensures { option_map asked_of result ≡ asked.list_in (rows_of (found_of words.now)) }
+/// The length of a window, if a number is given.
+fn every(words: &ArgMatches<'_>) -> Option<WindowCycles>
+    ensures { result ≡ number_of EVERY.name.now EVERY.kind (rows_of (found_of words.now)) }
 {
-    Some(Invocation::List {
-        program: text(words, "PROG")?,
-    })
+    Some(WindowCycles::new(number(words, &EVERY)?))
 }
 
-/// The command `sweep` with the words that follow it.
-fn sweep_in<'w>(words: &ArgMatches<'w>) -> Option<Invocation<'w>>
-    ensures { option_map asked_of result ≡ asked.sweep_in (rows_of (found_of words.now)) }
+/// What a sweep writes. There are windows of measures alone.
+fn output(words: &ArgMatches<'_>) -> Option<SweepOutput>
+    ensures { result ≡ spec.output_in (rows_of (found_of words.now)) }
 {
-    Some(Invocation::Sweep {
-        jobs: text(words, "JOBS")?,
-        workers: workers(words)?,
-        at_once: at_once(words)?,
-        progress: is_given(words, "progress"),
-    })
-}
-
-/// The command `lib` with the words that follow it.
-fn lib_in<'w>(words: &ArgMatches<'w>) -> Option<Invocation<'w>>
-    ensures { option_map asked_of result
-        ≡ option_map asked.lib (asked.lib_in (rows_of (found_of words.now))) }
-{
-    let name = text(words, "NAME")?;
-    let numbers = texts(words, "NUMBER")?;
-    Some(Invocation::Lib(coordination(name, numbers)?))
+    match (is_set(words, &MEASURES), every(words)) {
+        (true, every) => Some(SweepOutput::Measures { every }),
+        (false, None) => Some(SweepOutput::Report),
+        (false, Some(_)) => None,
+    }
 }
 
 /// The coordination program of this name and these numbers.
 fn coordination(name: &str, numbers: &[&str]) -> Option<Coordination>
-    ensures { result ≡ asked.coordination name.now (map (λ s. s.now) numbers.now) }
+    ensures { result ≡ spec.coordination name.now (map (λ s. s.now) numbers.now) }
 {
     match numbers {
-        [rounds] => barrier(name, decimal(rounds)?),
+        [rounds] => sizeless(name, decimal(rounds)?),
         [size, rounds] => sized(name, decimal(size)?, decimal(rounds)?),
         _ => None,
     }
@@ -130,69 +320,63 @@ fn sized(name: &str, size: u32, rounds: u32) -> Option<Coordination>
     }
 }
 
-/// The barrier, if that is the name.
-fn barrier(name: &str, rounds: u32) -> Option<Coordination>
-    ensures { result ≡ unsized name.now rounds }
+/// The coordination program of this name that has a number of rounds alone.
+fn sizeless(name: &str, rounds: u32) -> Option<Coordination>
+    ensures { result ≡ sizeless name.now rounds }
 {
     if name == "barrier" {
         Some(Coordination::Barrier { rounds })
+    } else if name == "tickets" {
+        Some(Coordination::Tickets { rounds })
     } else {
         None
     }
 }
 
 /// The first text of an argument.
-fn text<'w>(words: &ArgMatches<'w>, id: &str) -> Option<&'w str>
-    ensures { option_map (λ s. s.now) result ≡ first_of id.now (rows_of (found_of words.now)) }
+fn text<'w>(words: &ArgMatches<'w>, argument: &TableArgument) -> Option<&'w str>
+    ensures { option_map (λ s. s.now) result
+        ≡ first_of argument.now.name.now (rows_of (found_of words.now)) }
 {
-    words.get_str(id)
+    words.get_str(argument.name)
 }
 
 /// The texts of an argument.
-fn texts<'m, 'w>(words: &'m ArgMatches<'w>, id: &str) -> Option<&'m [&'w str]>
+fn texts<'m, 'w>(words: &'m ArgMatches<'w>, argument: &TableArgument) -> Option<&'m [&'w str]>
     ensures { option_map (λ s. map (λ t. t.now) s.now) result
-        ≡ all_of id.now (rows_of (found_of words.now)) }
+        ≡ all_of argument.now.name.now (rows_of (found_of words.now)) }
 {
-    words.get_raw(id)
+    words.get_raw(argument.name)
 }
 
 /// Whether a flag is given.
-fn is_given(words: &ArgMatches<'_>, id: &str) -> bool
-    ensures { result ≡ is_set (first_of id.now (rows_of (found_of words.now))) }
+fn is_set(words: &ArgMatches<'_>, flag: &TableArgument) -> bool
+    ensures { result ≡ is_set flag.now.name.now (rows_of (found_of words.now)) }
 {
-    match text(words, id) {
+    match text(words, flag) {
         Some(text) => text == "true",
         None => false,
     }
 }
 
-/// How many threads of the host work.
-fn workers(words: &ArgMatches<'_>) -> Option<Workers>
-    ensures { result ≡ number_within 1 64 (codes "workers") (rows_of (found_of words.now)) }
+/// The number of an option, if one is given in its range.
+fn number(words: &ArgMatches<'_>, option: &TableArgument) -> Option<u64>
+    ensures value { result
+        ≡ number_of option.now.name.now option.now.kind (rows_of (found_of words.now)) }
+    ensures in_range { IfSome result (IsInRange option.now.kind) }
 {
-    Workers::new(number(words, "workers")?)
+    let number = given_number(words, option.name)?;
+    match option.kind {
+        ArgumentKind::Number(_, least, most) if least <= number && number <= most => Some(number),
+        _ => None,
+    }
 }
 
-/// How many jobs may run at once.
-fn at_once(words: &ArgMatches<'_>) -> Option<JobsAtOnce>
-    ensures { result ≡ number_within 1 64 (codes "at-once") (rows_of (found_of words.now)) }
+/// The number of an option of this name.
+fn given_number(words: &ArgMatches<'_>, name: &str) -> Option<u64>
+    ensures { result ≡ given_number name.now (rows_of (found_of words.now)) }
 {
-    JobsAtOnce::new(number(words, "at-once")?)
-}
-
-/// The size of the heap that the words give.
-fn heap(words: &ArgMatches<'_>) -> Option<HeapBytes>
-    ensures { result
-        ≡ number_within 256 16777216 (codes "heap") (rows_of (found_of words.now)) }
-{
-    HeapBytes::new(number(words, "heap")?)
-}
-
-/// The number of an option.
-fn number(words: &ArgMatches<'_>, id: &str) -> Option<usize>
-    ensures { result ≡ option_number id.now (rows_of (found_of words.now)) }
-{
-    words.get_one(id)
+    words.get_one(name)
 }
 
 /// The number that a text of decimal digits alone writes, if it is below `2^32`.

@@ -1,213 +1,293 @@
-//! The commands and their arguments.
+//! The commands, their arguments and their options. What `clap` is given, and what accepted
+//! arguments ask for, follow from this table.
 
-ghost use Rattle.std.specs.Prelude.{◌≡◌};
-ghost use Rattle.ultra_args.specs.Table.{app_in, app_named};
+use crate::help;
 
-use crate::help::{self, Help};
-
-/// The word that says what is to be done.
+/// The commands.
 #[derive(Clone, Copy)]
 pub enum CommandName {
     Run,
+    Events,
+    Requests,
+    Measure,
     Order,
     Explain,
+    Check,
+    Para,
     List,
     Sweep,
     Lib,
 }
 
-/// A command and what follows its name.
-pub struct CommandRow {
-    /// The name of the command.
-    pub name: &'static str,
-    /// Its help.
-    pub help: Help<'static>,
-    /// Its arguments, in their order.
-    pub arguments: &'static [Argument],
+/// A command and its arguments. `T` is the type of its name, `A` that of its arguments.
+///
+/// These types take the references in them as parameters: the prover only names a constant in
+/// `specs/` whose type has none of its own.
+#[derive(Drop)]
+pub struct CommandRow<T, A> {
+    /// Which command it is.
+    pub command: CommandName,
+    /// Its name on the command line.
+    pub name: T,
+    /// Its arguments and options. The arguments are in their order.
+    pub arguments: A,
 }
 
-/// The name of an argument, and its help.
-#[derive(Clone, Copy)]
-pub struct Naming {
-    /// The name.
-    pub name: &'static str,
-    /// The short help.
-    pub help: &'static str,
-    /// The long help, if it says more.
-    pub in_full: Option<&'static str>,
+/// An argument or an option of a command.
+#[derive(Drop)]
+pub struct Argument<T> {
+    /// Its name. An option is `--NAME`.
+    pub name: T,
+    /// Its help. What follows an empty line is shown by `--help` alone.
+    pub help: T,
+    /// What it is.
+    pub kind: ArgumentKind<T>,
+    /// What holds where it isn't given.
+    pub presence: Presence<T>,
 }
 
-/// An argument of a command.
-pub enum Argument {
-    /// A text that has to be given.
-    Text(Naming),
-    /// Numbers below `2^32`. At least one has to be given.
-    Numbers(Naming),
-    /// The option `--NAME NUMBER`, with a number in a range.
-    Number {
-        /// Its name.
-        naming: Naming,
-        /// What stands for the number in the help.
-        number: &'static str,
-        /// The least number.
-        least: u64,
-        /// The largest number.
-        most: u64,
-        /// The number that it is where the words don't say it. If there is none, they have to.
-        default: Option<&'static str>,
-    },
+/// What an argument is.
+#[derive(Drop)]
+pub enum ArgumentKind<T> {
+    /// A text.
+    Text,
+    /// One or more numbers below `2^32`.
+    Numbers,
+    /// The option `--NAME NUMBER`: what the usage calls the number, the least number and the
+    /// greatest.
+    Number(T, u64, u64),
+    /// The option `--NAME WORD`: what the usage calls the word.
+    Word(T),
     /// The option `--NAME`.
-    Flag(Naming),
+    Flag,
 }
 
-/// The file of settings.
-const SETTINGS: Argument = Argument::Text(Naming {
-    name: "CONF",
-    help: help::SETTINGS,
-    in_full: None,
-});
+/// What holds where an argument isn't given.
+#[derive(Drop)]
+pub enum Presence<T> {
+    /// It has to be given.
+    Required,
+    /// It may be left out.
+    Optional,
+    /// Its value is this one.
+    Default(T),
+}
 
-/// The file of a program.
-const PROGRAM: Argument = Argument::Text(Naming {
-    name: "PROG",
-    help: help::PROGRAM,
-    in_full: None,
-});
+/// An argument of the table.
+pub type TableArgument = Argument<&'static str>;
 
-/// The commands.
-pub static COMMAND_NAMES: [CommandName; 6] = [
-    CommandName::Run,
-    CommandName::Order,
-    CommandName::Explain,
-    CommandName::List,
-    CommandName::Sweep,
-    CommandName::Lib,
+/// A row of the table.
+pub type TableRow = CommandRow<&'static str, &'static [TableArgument]>;
+
+/// The commands with their arguments.
+pub static COMMANDS: [TableRow; 11] = [
+    CommandRow {
+        command: CommandName::Run,
+        name: "run",
+        arguments: &[CONF, PROG, WORKERS, FROM, TO, ONLY],
+    },
+    CommandRow {
+        command: CommandName::Events,
+        name: "events",
+        arguments: &[CONF, PROG, FROM, TO],
+    },
+    CommandRow {
+        command: CommandName::Requests,
+        name: "requests",
+        arguments: &[CONF, PROG],
+    },
+    CommandRow {
+        command: CommandName::Measure,
+        name: "measure",
+        arguments: &[CONF, PROG, CSV, EVERY],
+    },
+    CommandRow {
+        command: CommandName::Order,
+        name: "order",
+        arguments: &[CONF, PROG],
+    },
+    CommandRow {
+        command: CommandName::Explain,
+        name: "explain",
+        arguments: &[CONF, PROG, HEAP],
+    },
+    CommandRow {
+        command: CommandName::Check,
+        name: "check",
+        arguments: &[CONF, PROG, LIST],
+    },
+    CommandRow {
+        command: CommandName::Para,
+        name: "para",
+        arguments: &[CONF, PROG, SCHEDULE, SEED, STEPS, ALL_OR_END],
+    },
+    CommandRow {
+        command: CommandName::List,
+        name: "list",
+        arguments: &[CAREFUL, PROG],
+    },
+    CommandRow {
+        command: CommandName::Sweep,
+        name: "sweep",
+        arguments: &[JOBS, JOB_WORKERS, AT_ONCE, PROGRESS, MEASURES, EVERY],
+    },
+    CommandRow {
+        command: CommandName::Lib,
+        name: "lib",
+        arguments: &[NAME, NUMBER],
+    },
 ];
 
-/// The words of a command.
-pub fn row_of(command_name: CommandName) -> &'static CommandRow
-    ensures { app_in result.now ≡ app_named command_name }
-{
-    match command_name {
-        CommandName::Run => &RUN,
-        CommandName::Order => &ORDER,
-        CommandName::Explain => &EXPLAIN,
-        CommandName::List => &LIST,
-        CommandName::Sweep => &SWEEP,
-        CommandName::Lib => &LIB,
-    }
-}
-
-/// The words of `run`.
-static RUN: CommandRow = CommandRow {
-    name: "run",
-    help: help::RUN,
-    arguments: &[
-        SETTINGS,
-        PROGRAM,
-        Argument::Number {
-            naming: Naming {
-                name: "workers",
-                help: help::WORKERS,
-                in_full: Some(help::WORKERS_IN_FULL),
-            },
-            number: "H",
-            least: 1,
-            most: 64,
-            default: Some("1"),
-        },
-    ],
+pub const CONF: TableArgument = Argument {
+    name: "CONF",
+    help: "The settings of the machine, a TOML file",
+    kind: ArgumentKind::Text,
+    presence: Presence::Required,
 };
 
-/// The words of `order`.
-static ORDER: CommandRow = CommandRow {
-    name: "order",
-    help: help::ORDER,
-    arguments: &[SETTINGS, PROGRAM],
+pub const PROG: TableArgument = Argument {
+    name: "PROG",
+    help: "The program of the processing elements, an assembler text",
+    kind: ArgumentKind::Text,
+    presence: Presence::Required,
 };
 
-/// The words of `explain`.
-static EXPLAIN: CommandRow = CommandRow {
-    name: "explain",
-    help: help::EXPLAIN,
-    arguments: &[
-        SETTINGS,
-        PROGRAM,
-        Argument::Number {
-            naming: Naming {
-                name: "heap",
-                help: help::HEAP,
-                in_full: Some(help::HEAP_IN_FULL),
-            },
-            number: "BYTES",
-            least: 256,
-            most: 16_777_216,
-            default: Some("1048576"),
-        },
-    ],
+pub const WORKERS: TableArgument = Argument {
+    name: "workers",
+    help: help::WORKERS,
+    kind: ArgumentKind::Number("H", 1, 64),
+    presence: Presence::Default("1"),
 };
 
-/// The words of `list`.
-static LIST: CommandRow = CommandRow {
-    name: "list",
-    help: help::LIST,
-    arguments: &[PROGRAM],
+pub const FROM: TableArgument = Argument {
+    name: "from",
+    help: "The first cycle that is shown, 0 to 1000000",
+    kind: ArgumentKind::Number("A", 0, 1_000_000),
+    presence: Presence::Default("0"),
 };
 
-/// The words of `sweep`.
-static SWEEP: CommandRow = CommandRow {
-    name: "sweep",
-    help: help::SWEEP,
-    arguments: &[
-        Argument::Text(Naming {
-            name: "JOBS",
-            help: help::JOBS,
-            in_full: None,
-        }),
-        Argument::Number {
-            naming: Naming {
-                name: "workers",
-                help: help::JOB_WORKERS,
-                in_full: Some(help::JOB_WORKERS_IN_FULL),
-            },
-            number: "H",
-            least: 1,
-            most: 64,
-            default: None,
-        },
-        Argument::Number {
-            naming: Naming {
-                name: "at-once",
-                help: help::AT_ONCE,
-                in_full: None,
-            },
-            number: "B",
-            least: 1,
-            most: 64,
-            default: None,
-        },
-        Argument::Flag(Naming {
-            name: "progress",
-            help: help::PROGRESS,
-            in_full: None,
-        }),
-    ],
+pub const TO: TableArgument = Argument {
+    name: "to",
+    help: "The last cycle that is shown, 0 to 1000000",
+    kind: ArgumentKind::Number("B", 0, 1_000_000),
+    presence: Presence::Default("1000000"),
 };
 
-/// The words of `lib`.
-static LIB: CommandRow = CommandRow {
-    name: "lib",
-    help: help::LIB,
-    arguments: &[
-        Argument::Text(Naming {
-            name: "NAME",
-            help: help::NAME,
-            in_full: Some(help::NAME_IN_FULL),
-        }),
-        Argument::Numbers(Naming {
-            name: "NUMBER",
-            help: help::NUMBERS,
-            in_full: Some(help::NUMBERS_IN_FULL),
-        }),
-    ],
+pub const ONLY: TableArgument = Argument {
+    name: "only",
+    help: help::ONLY,
+    kind: ArgumentKind::Word("all|events|end"),
+    presence: Presence::Default("all"),
+};
+
+pub const CSV: TableArgument = Argument {
+    name: "csv",
+    help: "Writes a table, its values separated by commas",
+    kind: ArgumentKind::Flag,
+    presence: Presence::Optional,
+};
+
+pub const EVERY: TableArgument = Argument {
+    name: "every",
+    help: help::EVERY,
+    kind: ArgumentKind::Number("E", 1, 1_000_000),
+    presence: Presence::Optional,
+};
+
+pub const HEAP: TableArgument = Argument {
+    name: "heap",
+    help: help::HEAP,
+    kind: ArgumentKind::Number("BYTES", 256, 16_777_216),
+    presence: Presence::Default("1048576"),
+};
+
+pub const LIST: TableArgument = Argument {
+    name: "LIST",
+    help: "The list of requests and replies, in the form that `order` writes",
+    kind: ArgumentKind::Text,
+    presence: Presence::Required,
+};
+
+pub const SCHEDULE: TableArgument = Argument {
+    name: "SCHEDULE",
+    help: "The PE that makes each step: a file of PE numbers",
+    kind: ArgumentKind::Text,
+    presence: Presence::Optional,
+};
+
+pub const SEED: TableArgument = Argument {
+    name: "seed",
+    help: help::SEED,
+    kind: ArgumentKind::Number("S", 0, u64::MAX),
+    presence: Presence::Optional,
+};
+
+pub const STEPS: TableArgument = Argument {
+    name: "steps",
+    help: help::STEPS,
+    kind: ArgumentKind::Number("T", 0, 4_294_967_295),
+    presence: Presence::Optional,
+};
+
+pub const ALL_OR_END: TableArgument = Argument {
+    name: "only",
+    help: "What is written: all, or only the end",
+    kind: ArgumentKind::Word("all|end"),
+    presence: Presence::Default("all"),
+};
+
+pub const CAREFUL: TableArgument = Argument {
+    name: "careful",
+    help: help::CAREFUL,
+    kind: ArgumentKind::Flag,
+    presence: Presence::Optional,
+};
+
+pub const JOBS: TableArgument = Argument {
+    name: "JOBS",
+    help: "The settings and programs of the runs, a TOML file",
+    kind: ArgumentKind::Text,
+    presence: Presence::Required,
+};
+
+pub const JOB_WORKERS: TableArgument = Argument {
+    name: "workers",
+    help: help::JOB_WORKERS,
+    kind: ArgumentKind::Number("H", 1, 64),
+    presence: Presence::Required,
+};
+
+pub const AT_ONCE: TableArgument = Argument {
+    name: "at-once",
+    help: "How many jobs may run at once, 1 to 64",
+    kind: ArgumentKind::Number("B", 1, 64),
+    presence: Presence::Required,
+};
+
+pub const PROGRESS: TableArgument = Argument {
+    name: "progress",
+    help: "Shows on standard error how many jobs are finished",
+    kind: ArgumentKind::Flag,
+    presence: Presence::Optional,
+};
+
+pub const MEASURES: TableArgument = Argument {
+    name: "measure",
+    help: "Writes the measures of each job in place of its trace",
+    kind: ArgumentKind::Flag,
+    presence: Presence::Optional,
+};
+
+pub const NAME: TableArgument = Argument {
+    name: "NAME",
+    help: help::NAME,
+    kind: ArgumentKind::Text,
+    presence: Presence::Required,
+};
+
+pub const NUMBER: TableArgument = Argument {
+    name: "NUMBER",
+    help: help::NUMBER,
+    kind: ArgumentKind::Numbers,
+    presence: Presence::Required,
 };

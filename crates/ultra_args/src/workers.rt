@@ -1,11 +1,8 @@
 //! How many threads of the host work on a run or a sweep.
 
-ghost use Rattle.std.specs.Prelude.{◌≡◌, ◌≤◌, ◌↔◌, IfSome, IsSome};
+ghost use Rattle.std.specs.Prelude.{◌≡◌, ◌≤◌};
 
 use std::marker::Model;
-
-/// The most threads of the host that a run or a sweep may have.
-const MOST_WORKERS: usize = 64;
 
 /// A number of threads of the host, 1 to 64. In a run one worker is the caller's thread, and of
 /// several each has a thread of its own. Contracts see the number.
@@ -29,16 +26,14 @@ impl Model for Workers {
 }
 
 impl Workers {
-    /// `count` workers, or `None` where `count` isn't 1 to 64.
-    pub(crate) fn new(count: usize) -> Option<Workers>
-        ensures in_range { IsSome result ↔ ((1 ≤ count) × (count ≤ 64)) }
-        ensures value { IfSome result (λ w. w ≡ count) }
+    /// `count` workers.
+    pub(crate) fn new(count: u64) -> Workers
+        requires least { 1 ≤ count }
+        requires most { count ≤ 64 }
+        ensures { result ≡ count }
     {
-        if (1..=MOST_WORKERS).contains(&count) {
-            Some(Workers { count })
-        } else {
-            None
-        }
+        let count = count as usize;
+        Workers { count }
     }
 
     /// How many, 1 to 64.

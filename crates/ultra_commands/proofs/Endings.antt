@@ -7,22 +7,41 @@ use Rattle.ultra_isa.specs.declared.Instr.{Instr}
 use Rattle.ultra_model.specs.Machine.{Settings}
 use Rattle.ultra_io.specs.Account.{SinkState}
 use Rattle.ultra_inputs.specs.declared.failure.Failure.{Failure}
-use Rattle.ultra_inputs.specs.declared.failure.Failure.TheVariants.{NoThread, HeapFull, NotWritten}
+use Rattle.ultra_inputs.specs.declared.failure.Failure.TheVariants.{NotFenced, NotLegal, NoThread, HeapFull, NotWritten}
 use Rattle.ultra_inputs.specs.Failure.{status_of, read_failures, write_failures}
-use Rattle.ultra_inputs.specs.Traffic.{Traffic, TextFails}
-use Rattle.ultra_commands.specs.Listing.{ListFails, unread_text, refused_text, unwritten}
-use Rattle.ultra_commands.specs.Stops.{IsStoppedBy}
+use Rattle.ultra_inputs.specs.Traffic.{Traffic, IsStopped, WroteText, TextFails}
+use Rattle.ultra_commands.specs.Listing.{ListFails, unread_text, refused_text, unwritten, not_careful}
+use Rattle.ultra_trace_alone.specs.declared.part.TracePart.{TracePart}
+use Rattle.ultra_trace_alone.specs.Part.{part_of}
+use Rattle.ultra_verdict.specs.declared.VerdictFault.{VerdictFault}
+use Rattle.ultra_verdict.specs.declared.VerdictFault.TheVariants as verdict
+use Rattle.ultra_args.specs.declared.ScheduleOf.{ScheduleOf}
+use Rattle.ultra_args.specs.declared.ScheduleOf.TheVariants.{File, Seed}
+use Rattle.ultra_commands.specs.Check as check
+use Rattle.ultra_commands.specs.Check.{CheckFails, failure_of_verdict}
+use Rattle.ultra_commands.specs.Paracomputer as para
+use Rattle.ultra_commands.specs.Paracomputer.{ParaFails, seeded_text}
+use Rattle.ultra_commands.specs.Stops.{IsStoppedBy, RunFails}
 use Rattle.ultra_commands.specs.Explanation.{explanation_of, EndsFull, IsCutShort}
 use Rattle.ultra_commands.specs.Coordination as lib
 use Rattle.ultra_commands.specs.Coordination.{LibFails}
 use Rattle.ultra_args.specs.declared.Coordination.{Coordination}
 use Rattle.ultra_args.specs.declared.Parsed.{Parsed}
 use Rattle.ultra_inputs.specs.Shown.{IsReported}
+use Rattle.ultra_args.specs.declared.sweep_output.SweepOutput.{SweepOutput}
 use Rattle.ultra_sweep_command.specs.Sweep as sweep
 use Rattle.ultra_sweep_command.specs.Sweep.{Swept, SweepFails, HasFailed, JobsFail}
 use Rattle.ultra_inputs.specs.Status.{IsStatus, IsRefusal, status_failures}
-use Rattle.ultra_inputs.proofs.Endings.{ends, not_four, not_five, ended_by, is_unwritten, is_stopped, text_refused}
+use Rattle.ultra_inputs.proofs.Endings.{ends, not_four, not_five, ended_by, is_unwritten, is_stopped, stopped_refused, text_refused}
 use Rattle.ultra_commands.specs.Outcome.{ExplainFails, Obeyed, NotObeyed, HasReported, HasEnded}
+
+not_one : ¬ IsRefusal 1
+not_one (inl e) = cc
+not_one (inr e) = cc
+
+verdict_stops : (v : VerdictFault) → ¬ IsRefusal (status_of (failure_of_verdict v))
+verdict_stops verdict.Write = not_five
+verdict_stops verdict.NoMemory = not_four
 
 is_stopped_by : (workers : ℕ) (f : Failure) → IsStoppedBy workers f → ¬ IsRefusal (status_of f)
 is_stopped_by workers f (inl s) = is_stopped f s
@@ -33,11 +52,24 @@ is_cut_short f (inl e) = ended_by f HeapFull e not_four
 is_cut_short f (inr s) = is_stopped f s
 
 module _ (conf prog : List ℕ) (old new : Traffic) (f : Failure) (text : Settings → List Instr → List ℕ) where
-  pub run_refused : (workers : ℕ) → TextFails text (IsStoppedBy workers) conf prog old new f → IsRefusal (status_of f) → new.written ≡ old.written
-  run_refused workers = text_refused conf prog old new f text (IsStoppedBy workers) (is_stopped_by workers f)
+  stopped_by_refused : (workers : ℕ) → TextFails text (IsStoppedBy workers) conf prog old new f → IsRefusal (status_of f) → new.written ≡ old.written
+  stopped_by_refused workers = text_refused conf prog old new f text (IsStoppedBy workers) (is_stopped_by workers f)
 
   cut_short_refused : TextFails text IsCutShort conf prog old new f → IsRefusal (status_of f) → new.written ≡ old.written
   cut_short_refused = text_refused conf prog old new f text IsCutShort (is_cut_short f)
+
+pub run_refused : (conf prog : List ℕ) (old new : Traffic) (f : Failure) (part : TracePart) (workers : ℕ) → RunFails part workers conf prog old new f → IsRefusal (status_of f) → new.written ≡ old.written
+run_refused conf prog old new f part workers why = stopped_by_refused conf prog old new f (part_of part) workers why.shown
+
+pub check_refused : (conf prog list : List ℕ) (old new : Traffic) (f : Failure) → CheckFails conf prog list old new f → IsRefusal (status_of f) → new.written ≡ old.written
+check_refused conf prog list old new f (check.refused gave same) r = same
+check_refused conf prog list old new f (check.not_legal c p l gave why written) r = absurd (ended_by f NotLegal why not_one r)
+check_refused conf prog list old new f (check.stopped c p l gave v why cut) r = absurd (ended_by f (failure_of_verdict v) why (verdict_stops v) r)
+
+pub para_refused : (schedule : ScheduleOf) (only_end : Bool) (conf prog : List ℕ) (old new : Traffic) (f : Failure) → ParaFails schedule only_end conf prog old new f → IsRefusal (status_of f) → new.written ≡ old.written
+para_refused (File path) only_end conf prog old new f (para.refused gave same) r = same
+para_refused (File path) only_end conf prog old new f (para.stopped c p s gave stops begun) r = absurd (is_stopped f stops r)
+para_refused (Seed seed steps) only_end conf prog old new f why r = stopped_refused conf prog old new f (seeded_text seed steps only_end) why r
 
 pub explain_refused : (conf prog : List ℕ) (old new : Traffic) (f : Failure) → ExplainFails conf prog old new f → IsRefusal (status_of f) → new.written ≡ old.written
 explain_refused conf prog old new f why = cut_short_refused conf prog old new f explanation_of why.fails
@@ -47,10 +79,11 @@ pub explain_failed : {T : Type 0} (conf prog : List ℕ) (old new : Traffic) (r 
 explain_failed conf prog old new (Ok x) fails full = fails
 explain_failed conf prog old new (Err f) fails full = record { fails = fails; full = full }
 
-pub list_refused : (prog : List ℕ) (old new : Traffic) (f : Failure) → ListFails prog old new f → IsRefusal (status_of f) → new.written ≡ old.written
-list_refused prog old new f (unread_text why same) r = ap (λ t. t.written) same
-list_refused prog old new f (refused_text text why same) r = ap (λ t. t.written) same
-list_refused prog old new f (unwritten text p gave why files begun) r = absurd (is_unwritten f why r)
+pub list_refused : (prog : List ℕ) (careful : Bool) (old new : Traffic) (f : Failure) → ListFails prog careful old new f → IsRefusal (status_of f) → new.written ≡ old.written
+list_refused prog careful old new f (unread_text why same) r = ap (λ t. t.written) same
+list_refused prog careful old new f (refused_text text why same) r = ap (λ t. t.written) same
+list_refused prog careful old new f (unwritten text p gave why files begun) r = absurd (is_unwritten f why r)
+list_refused prog careful old new f (not_careful text p gave asked path k why same first files written) r = absurd (ended_by f (NotFenced path k) why not_one r)
 
 pub lib_refused : (c : Coordination) (old new : List ℕ) (f : Failure) → LibFails c old new f → IsRefusal (status_of f) → new ≡ old
 lib_refused c old new f (lib.refused bad why same) r = same
@@ -63,14 +96,14 @@ lib_unread c old new f (lib.refused bad why same) = ap read_failures why
 lib_unread c old new f (lib.no_memory good why same) = ap read_failures why
 lib_unread c old new f (lib.unwritten good why begun) = ap read_failures why
 
-jobs_refused : (paths : List Paths) (progress : Bool) (old new : Traffic) (before after : SinkState) (f : Failure) → JobsFail paths progress old new before after f → IsRefusal (status_of f) → new.written ≡ old.written
-jobs_refused paths progress old new before after f (sweep.refused gave same still) r = same
-jobs_refused paths progress old new before after f (sweep.not_run jobs last gave stops same shown) r = same
-jobs_refused paths progress old new before after f (sweep.unwritten jobs gave why begun shown) r = absurd (is_unwritten f why r)
+jobs_refused : (paths : List Paths) (output : SweepOutput) (progress : Bool) (old new : Traffic) (before after : SinkState) (f : Failure) → JobsFail paths output progress old new before after f → IsRefusal (status_of f) → new.written ≡ old.written
+jobs_refused paths output progress old new before after f (sweep.refused gave same still) r = same
+jobs_refused paths output progress old new before after f (sweep.not_run jobs last gave stops same shown) r = same
+jobs_refused paths output progress old new before after f (sweep.unwritten jobs gave why begun shown) r = absurd (is_unwritten f why r)
 
-sweep_refused : (path : List ℕ) (progress : Bool) (old new : Traffic) (before after : SinkState) (f : Failure) → SweepFails path progress old new before after f → IsRefusal (status_of f) → new.written ≡ old.written
-sweep_refused path progress old new before after f (sweep.unlisted gave same still) r = same
-sweep_refused path progress old new before after f (sweep.listed text paths gave fails) r = jobs_refused paths progress _ new before after f fails r
+sweep_refused : (path : List ℕ) (output : SweepOutput) (progress : Bool) (old new : Traffic) (before after : SinkState) (f : Failure) → SweepFails path output progress old new before after f → IsRefusal (status_of f) → new.written ≡ old.written
+sweep_refused path output progress old new before after f (sweep.unlisted gave same still) r = same
+sweep_refused path output progress old new before after f (sweep.listed text paths gave fails) r = jobs_refused paths output progress _ new before after f fails r
 
 not_zero : ¬ IsRefusal 0
 not_zero (inl e) = cc
@@ -109,14 +142,20 @@ module _ (p : Parsed) (old new : Traffic) (before after : SinkState) (source_fai
   command_ended (Ok x) Done Fails obeyed failed nothing good bad read_still read_counted still counted reported = well_ended reported.well.0 (obeyed good reported.well.1) read_still still
   command_ended (Err f) Done Fails obeyed failed nothing good bad read_still read_counted still counted reported = failure_ended f before (failed f bad) (nothing f bad) read_counted counted reported.badly.0 reported.badly.1
 
+  -- the same of a command that writes a text of a run
+  pub text_ended : {T : Type 0} (r : Result T Failure) (text : Settings → List Instr → List ℕ) (conf prog : List ℕ) → (WroteText text conf prog old new → after ≡ before → Obeyed p old new before after) → ((f : Failure) → TextFails text IsStopped conf prog old new f → NotObeyed p old new before before f)
+      → OnOk r (WroteText text conf prog old new) → IfErr r (TextFails text IsStopped conf prog old new) → OnOk r (source_failures_after ≡ source_failures) → IfErr r (λ f. source_failures_after ≡ source_failures + read_failures f)
+      → OnOk r (failures_after ≡ failures) → IfErr r (λ f. failures_after ≡ failures + write_failures f) → HasReported r before after end → HasEnded p old new before after source_failures source_failures_after failures failures_after end
+  text_ended r text conf prog obeyed failed = command_ended r (WroteText text conf prog old new) (TextFails text IsStopped conf prog old new) obeyed failed (λ f. stopped_refused conf prog old new f text)
+
   -- a sweep that is done, or whose failure was reported
-  pub sweep_ended : (path : List ℕ) (progress : Bool) → (Swept path progress old new before after → Obeyed p old new before after) → ((f : Failure) (shown : SinkState) → SweepFails path progress old new before shown f → NotObeyed p old new before shown f)
-      → (end ≡ 0 → Swept path progress old new before after) → (end ≢ 0 → HasFailed path progress old new before after source_failures source_failures_after end)
+  pub sweep_ended : (path : List ℕ) (output : SweepOutput) (progress : Bool) → (Swept path output progress old new before after → Obeyed p old new before after) → ((f : Failure) (shown : SinkState) → SweepFails path output progress old new before shown f → NotObeyed p old new before shown f)
+      → (end ≡ 0 → Swept path output progress old new before after) → (end ≢ 0 → HasFailed path output progress old new before after source_failures source_failures_after end)
       → (end ≡ 0 → source_failures_after ≡ source_failures) → (end ≡ 0 → failures_after ≡ failures) → (end ≢ 0 → (f : Failure) × (status_of f ≡ end) × (failures_after ≡ failures + write_failures f)) → HasEnded p old new before after source_failures source_failures_after failures failures_after end
-  sweep_ended path progress obeyed failed done fails read_still still counted = ⊎_elim (λ zero. well_ended zero (obeyed (done zero)) (read_still zero) (still zero)) (λ (bad : end ≢ 0). badly (fails bad) (counted bad)) (cases_eq end 0)
+  sweep_ended path output progress obeyed failed done fails read_still still counted = ⊎_elim (λ zero. well_ended zero (obeyed (done zero)) (read_still zero) (still zero)) (λ (bad : end ≢ 0). badly (fails bad) (counted bad)) (cases_eq end 0)
     where
-      badly : HasFailed path progress old new before after source_failures source_failures_after end → (f : Failure) × (status_of f ≡ end) × (failures_after ≡ failures + write_failures f) → HasEnded p old new before after source_failures source_failures_after failures failures_after end
+      badly : HasFailed path output progress old new before after source_failures source_failures_after end → (f : Failure) × (status_of f ≡ end) × (failures_after ≡ failures + write_failures f) → HasEnded p old new before after source_failures source_failures_after failures failures_after end
       badly b (g, other, count) =
           let f = b.failure in
           let both : write_failures g ≡ write_failures f = (ends g).written ∙ (ap status_failures (other ∙ sym b.same_status) ∙ sym (ends f).written) in
-          failure_ended f b.shown (failed f b.shown b.why) (sweep_refused path progress old new before b.shown f b.why) b.read_counted (count ∙ ap (λ n. failures + n) both) (sym b.same_status) b.report
+          failure_ended f b.shown (failed f b.shown b.why) (sweep_refused path output progress old new before b.shown f b.why) b.read_counted (count ∙ ap (λ n. failures + n) both) (sym b.same_status) b.report

@@ -3,3 +3,4 @@ pub mod InRange
 pub mod Runs
 pub mod LastCycle
 pub mod Endings
+pub mod Parts

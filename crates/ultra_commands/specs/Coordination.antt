@@ -7,9 +7,11 @@ use Rattle.ultra_colib.specs.Gate.{gate}
 use Rattle.ultra_colib.specs.Queue.{queue}
 use Rattle.ultra_colib.specs.ReadersWriters.{readers_writers}
 use Rattle.ultra_colib.specs.Barrier.{barrier}
+use Rattle.ultra_colib.specs.TicketRounds.{ticket_rounds}
 use Rattle.ultra_colib.specs.Parameters.{gate_takes, queue_takes, rw_takes, barrier_takes}
 use Rattle.ultra_args.specs.declared.Coordination.{Coordination}
-use Rattle.ultra_args.specs.declared.Coordination.TheVariants.{Gate, Queue, ReadersWriters, Barrier}
+use Rattle.ultra_args.specs.declared.Coordination.TheVariants.{Gate, Queue, ReadersWriters}
+use Rattle.ultra_args.specs.declared.Coordination.TheVariants.{Barrier, Tickets}
 use Rattle.ultra_inputs.specs.declared.failure.Failure.{Failure}
 use Rattle.ultra_inputs.specs.declared.failure.Failure.TheVariants.{BadParameter, NoMemory, NotWritten}
 
@@ -19,6 +21,7 @@ are_taken (Gate bound rounds) = gate_takes bound rounds
 are_taken (Queue log_size rounds) = queue_takes log_size rounds
 are_taken (ReadersWriters writers rounds) = rw_takes writers rounds
 are_taken (Barrier rounds) = barrier_takes rounds
+are_taken (Tickets rounds) = barrier_takes rounds
 
 -- the program of these parameters
 abbrev pub program_of : Coordination → List Instr
@@ -26,6 +29,7 @@ program_of (Gate bound rounds) = gate bound rounds
 program_of (Queue log_size rounds) = queue log_size rounds
 program_of (ReadersWriters writers rounds) = readers_writers writers rounds
 program_of (Barrier rounds) = barrier rounds
+program_of (Tickets rounds) = ticket_rounds rounds
 
 abbrev pub lib_text : Coordination → List ℕ
 lib_text c = listing_text (program_of c)

@@ -1,6 +1,10 @@
 pub mod Stops
 pub mod Order
 pub mod Listing
+pub mod ThirdFile
+pub mod Outputs
+pub mod Check
+pub mod Paracomputer
 pub mod Coordination
 pub mod Explanation
 pub mod Outcome

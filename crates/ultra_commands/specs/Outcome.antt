@@ -1,7 +1,7 @@
 -- which commands were obeyed, and with which status the program ends; this project's profile
 use Rattle.std.specs.Prelude.{◌≡◌, ◌≢◌, ◌+◌, ℕ, List, [], ◌∷◌, ◌++◌, string_bytes, Result, OnOk, IfErr}
 use Rattle.ultra_msg.specs.Bytes.{TakesPrefix}
-use Rattle.ultra_args.specs.declared.Invocation.TheVariants.{Run, Order, Explain, List as ListOf, Sweep, Lib}
+use Rattle.ultra_args.specs.declared.Invocation.TheVariants.{Run, Events, Requests, Measure, Order, Explain, Check, Para, List as ListOf, Sweep, Lib}
 use Rattle.ultra_args.specs.declared.Parsed.{Parsed}
 use Rattle.ultra_args.specs.declared.Parsed.TheVariants as parsed
 use Rattle.ultra_inputs.specs.declared.failure.Failure.{Failure}
@@ -10,14 +10,18 @@ use Rattle.ultra_inputs.specs.Traffic.{Traffic, IsStopped, WroteText, TextFails}
 use Rattle.ultra_inputs.specs.Failure.{status_of, read_failures}
 use Rattle.ultra_io.specs.Account.{SinkState}
 use Rattle.ultra_commands.specs.Listing.{WroteListing, ListFails}
-use Rattle.ultra_commands.specs.Stops.{IsStoppedBy}
+use Rattle.ultra_commands.specs.Stops.{WroteRun, RunFails}
+use Rattle.ultra_commands.specs.Outputs.{measures_asked, part_asked}
+use Rattle.ultra_commands.specs.Check.{WroteLegal, CheckFails}
+use Rattle.ultra_commands.specs.Paracomputer.{WrotePara, ParaFails}
 use Rattle.ultra_commands.specs.Order.{order_of}
 use Rattle.ultra_commands.specs.Explanation.{explanation_of, EndsFull, IsCutShort}
 use Rattle.ultra_commands.specs.Coordination.{WroteProgram, LibFails}
 use Rattle.ultra_inputs.specs.Shown.{IsReported}
 use Rattle.ultra_inputs.specs.Status.{IsStatus, IsRefusal, status_failures}
 use Rattle.ultra_sweep_command.specs.Sweep.{Swept, SweepFails}
-use Rattle.ultra_trace.specs.Trace.{trace}
+use Rattle.ultra_requests.specs.EventLines.{events_of}
+use Rattle.ultra_requests.specs.RequestTable.{requests_of}
 
 -- how an explanation fails: where the heap is full, the lines before a combination are written
 pub record ExplainFails (conf prog : List ℕ) (old new : Traffic) (f : Failure) : Type 0 where
@@ -35,16 +39,26 @@ AnswerFails text old new f =
 
 -- what was asked for was done. Standard error took nothing, but for the progress of a sweep
 abbrev pub Obeyed : Parsed → Traffic → Traffic → SinkState → SinkState → Type 0
-Obeyed (parsed.Invocation (Run conf prog workers)) old new before after =
-    WroteText trace conf.now prog.now old new × (after ≡ before)
+Obeyed (parsed.Invocation (Run conf prog workers from to only)) old new before after =
+    WroteRun (part_asked from to only) conf.now prog.now old new × (after ≡ before)
+Obeyed (parsed.Invocation (Events conf prog from to)) old new before after =
+    WroteText (events_of from to) conf.now prog.now old new × (after ≡ before)
+Obeyed (parsed.Invocation (Requests conf prog)) old new before after =
+    WroteText requests_of conf.now prog.now old new × (after ≡ before)
+Obeyed (parsed.Invocation (Measure conf prog csv every)) old new before after =
+    WroteText (measures_asked csv every) conf.now prog.now old new × (after ≡ before)
 Obeyed (parsed.Invocation (Order conf prog)) old new before after =
     WroteText order_of conf.now prog.now old new × (after ≡ before)
 Obeyed (parsed.Invocation (Explain conf prog heap)) old new before after =
     WroteText explanation_of conf.now prog.now old new × (after ≡ before)
-Obeyed (parsed.Invocation (ListOf prog)) old new before after =
-    WroteListing prog.now old new × (after ≡ before)
-Obeyed (parsed.Invocation (Sweep jobs workers at_once progress)) old new before after =
-    Swept jobs.now progress old new before after
+Obeyed (parsed.Invocation (Check conf prog list)) old new before after =
+    WroteLegal conf.now prog.now list.now old new × (after ≡ before)
+Obeyed (parsed.Invocation (Para conf prog schedule only_end)) old new before after =
+    WrotePara schedule only_end conf.now prog.now old new × (after ≡ before)
+Obeyed (parsed.Invocation (ListOf prog careful)) old new before after =
+    WroteListing prog.now careful old new × (after ≡ before)
+Obeyed (parsed.Invocation (Sweep jobs workers at_once progress output)) old new before after =
+    Swept jobs.now output progress old new before after
 Obeyed (parsed.Invocation (Lib coordination)) old new before after =
     (new.files ≡ old.files) × WroteProgram coordination old.written new.written × (after ≡ before)
 Obeyed (parsed.Help text) old new before after =
@@ -56,16 +70,26 @@ Obeyed parsed.NoMemory old new before after = ⊥
 
 -- how it wasn't done, before the failure was reported
 abbrev pub NotObeyed : Parsed → Traffic → Traffic → SinkState → SinkState → Failure → Type 0
-NotObeyed (parsed.Invocation (Run conf prog workers)) old new before after f =
-    TextFails trace (IsStoppedBy workers) conf.now prog.now old new f × (after ≡ before)
+NotObeyed (parsed.Invocation (Run conf prog workers from to only)) old new before after f =
+    RunFails (part_asked from to only) workers conf.now prog.now old new f × (after ≡ before)
+NotObeyed (parsed.Invocation (Events conf prog from to)) old new before after f =
+    TextFails (events_of from to) IsStopped conf.now prog.now old new f × (after ≡ before)
+NotObeyed (parsed.Invocation (Requests conf prog)) old new before after f =
+    TextFails requests_of IsStopped conf.now prog.now old new f × (after ≡ before)
+NotObeyed (parsed.Invocation (Measure conf prog csv every)) old new before after f =
+    TextFails (measures_asked csv every) IsStopped conf.now prog.now old new f × (after ≡ before)
 NotObeyed (parsed.Invocation (Order conf prog)) old new before after f =
     TextFails order_of IsStopped conf.now prog.now old new f × (after ≡ before)
 NotObeyed (parsed.Invocation (Explain conf prog heap)) old new before after f =
     ExplainFails conf.now prog.now old new f × (after ≡ before)
-NotObeyed (parsed.Invocation (ListOf prog)) old new before after f =
-    ListFails prog.now old new f × (after ≡ before)
-NotObeyed (parsed.Invocation (Sweep jobs workers at_once progress)) old new before after f =
-    SweepFails jobs.now progress old new before after f
+NotObeyed (parsed.Invocation (Check conf prog list)) old new before after f =
+    CheckFails conf.now prog.now list.now old new f × (after ≡ before)
+NotObeyed (parsed.Invocation (Para conf prog schedule only_end)) old new before after f =
+    ParaFails schedule only_end conf.now prog.now old new f × (after ≡ before)
+NotObeyed (parsed.Invocation (ListOf prog careful)) old new before after f =
+    ListFails prog.now careful old new f × (after ≡ before)
+NotObeyed (parsed.Invocation (Sweep jobs workers at_once progress output)) old new before after f =
+    SweepFails jobs.now output progress old new before after f
 NotObeyed (parsed.Invocation (Lib coordination)) old new before after f =
     (new.files ≡ old.files) × LibFails coordination old.written new.written f × (after ≡ before)
 NotObeyed (parsed.Help text) old new before after f =

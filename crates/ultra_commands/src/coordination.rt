@@ -7,7 +7,9 @@ ghost use Rattle.ultra_commands.specs.Coordination.{are_taken, program_of, LibFa
 use std::alloc::Global;
 use ultra_args::Coordination;
 use ultra_asm::listing;
-use ultra_colib::{ColibFault, barrier_program, gate_program, queue_program, rw_program};
+use ultra_colib::{
+    ColibFault, barrier_program, gate_program, queue_program, rw_program, tickets_program,
+};
 use ultra_inputs::Failure;
 use ultra_isa::Program;
 use ultra_msg::Sink;
@@ -48,5 +50,6 @@ fn generate(alloc: Global, coordination: Coordination) -> Result<Program, ColibF
         Coordination::Queue { log_size, rounds } => queue_program(alloc, log_size, rounds),
         Coordination::ReadersWriters { writers, rounds } => rw_program(alloc, writers, rounds),
         Coordination::Barrier { rounds } => barrier_program(alloc, rounds),
+        Coordination::Tickets { rounds } => tickets_program(alloc, rounds),
     }
 }

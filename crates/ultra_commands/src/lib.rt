@@ -3,11 +3,16 @@
 #![tactic(auto)]
 
 mod acts;
+mod checking;
 mod coordination;
 mod explaining;
 mod line_buffer;
 mod listing;
+mod para;
+mod run_output;
+mod run_texts;
 mod serial_order;
+mod third_file;
 mod trace;
 
 ghost use Rattle.std.specs.Prelude.{◌≡◌, ◌≢◌, ◌+◌, map};
@@ -18,11 +23,15 @@ ghost use Rattle.ultra_inputs.specs.Traffic.{traffic};
 ghost use Rattle.ultra_inputs.specs.Status.{status_failures, IsRefusal, IsStatus};
 ghost use Rattle.ultra_commands.specs.Outcome.{Obeyed, Failed, HasEnded, HasReported};
 
+use crate::checking::check;
 use crate::coordination::write_program;
 use crate::explaining::explain;
 use crate::listing::list;
-use crate::serial_order::order;
-use crate::trace::run;
+use crate::para::para;
+use crate::run_output::write_run_output;
+use crate::run_texts::{Events, Measures, Requests};
+use crate::serial_order::SerialOrder;
+use crate::trace::{part_asked, run};
 use std::sync::Wait;
 use std::thread::Threads;
 use ultra_args::{Invocation, Parsed, parse};
@@ -31,8 +40,9 @@ use ultra_io::Source;
 use ultra_msg::{Sink, write_all};
 use ultra_sweep_command::{SweepPlan, sweep};
 
-/// Does what the words ask for, and answers the status that the program ends with: 0 done, 2 a
-/// usage fault, 3 refused input, 4 no memory, no thread or a full heap, 5 a failed write.
+/// Does what the words ask for, and answers the status that the program ends with: 0 done, 1 a list
+/// that isn't a serial order or a program that isn't careful, 2 a usage fault, 3 refused input, 4 no
+/// memory, no thread or a full heap, 5 a failed write.
 ///
 /// The first word is the program's name. Results, help and the version go to `out`; what is wrong
 /// goes to `err`. `clap` lays out the texts of help, of the version and of usage faults, and tests
@@ -77,7 +87,7 @@ fn obey<'w, R: AllocGlobal + Threads + Wait + Sync, F: Source, O: Sink, E: Sink>
         (O.failures out.old) (O.failures out.new) result }
 {
     match parsed {
-        Parsed::Invocation(command) => carry_out(rt, command, source, out, err),
+        Parsed::Invocation(command) => carry_out(rt, &command, source, out, err),
         Parsed::Help(text) | Parsed::Version(text) => match write_all(out, text.as_bytes()) {
             Ok(()) => 0,
             Err(_) => give_up(&Failure::NotWritten, err),
@@ -90,12 +100,12 @@ fn obey<'w, R: AllocGlobal + Threads + Wait + Sync, F: Source, O: Sink, E: Sink>
 /// Carries out a command, and answers the status.
 fn carry_out<'w, R: AllocGlobal + Threads + Wait + Sync, F: Source, O: Sink, E: Sink>(
     rt: &R,
-    command: Invocation<'w>,
+    command: &Invocation<'w>,
     source: &mut F,
     out: &mut O,
     err: &mut E,
 ) -> u8
-    ensures { HasEnded (Parsed.Invocation command.entry)
+    ensures { HasEnded (Parsed.Invocation command.now)
         (traffic (F.files source.old) (O.taken out.old)) (traffic (F.files source.new) (O.taken out.new))
         (stream (E.taken err.old) (E.failures err.old))
         (stream (E.taken err.new) (E.failures err.new))
@@ -103,17 +113,46 @@ fn carry_out<'w, R: AllocGlobal + Threads + Wait + Sync, F: Source, O: Sink, E: 
         (O.failures out.old) (O.failures out.new) result }
 {
     let alloc = rt.alloc();
-    match command {
+    match *command {
         Invocation::Run {
             settings,
             program,
             workers,
+            from,
+            to,
+            only,
         } => {
-            let done = run(rt, alloc, settings, program, workers, source, out);
+            let part = part_asked(from, to, only);
+            let done = run(rt, alloc, settings, program, part, workers, source, out);
+            ended(done, err)
+        }
+        Invocation::Events {
+            settings,
+            program,
+            from,
+            to,
+        } => {
+            let events = Events { from, to };
+            let done = write_run_output(alloc, settings, program, &events, source, out);
+            ended(done, err)
+        }
+        Invocation::Requests { settings, program } => {
+            let done = write_run_output(alloc, settings, program, &Requests, source, out);
+            ended(done, err)
+        }
+        Invocation::Measure {
+            settings,
+            program,
+            csv,
+            every,
+        } => {
+            let measures = Measures { csv, every };
+            let done = write_run_output(alloc, settings, program, &measures, source, out);
             ended(done, err)
         }
         Invocation::Order { settings, program } => {
-            ended(order(alloc, settings, program, source, out), err)
+            let done = write_run_output(alloc, settings, program, &SerialOrder, source, out);
+            ended(done, err)
         }
         Invocation::Explain {
             settings,
@@ -123,17 +162,38 @@ fn carry_out<'w, R: AllocGlobal + Threads + Wait + Sync, F: Source, O: Sink, E: 
             let done = explain(alloc, settings, program, heap, source, out);
             ended(done, err)
         }
-        Invocation::List { program } => ended(list(alloc, program, source, out), err),
+        Invocation::Check {
+            settings,
+            program,
+            list,
+        } => {
+            let done = check(alloc, settings, program, list, source, out);
+            ended(done, err)
+        }
+        Invocation::Para {
+            settings,
+            program,
+            schedule,
+            only_end,
+        } => {
+            let done = para(alloc, settings, program, schedule, only_end, source, out);
+            ended(done, err)
+        }
+        Invocation::List { program, careful } => {
+            ended(list(alloc, program, careful, source, out), err)
+        }
         Invocation::Sweep {
             jobs,
             workers,
             at_once,
             progress,
+            output,
         } => {
             let plan = SweepPlan {
                 workers,
                 at_once,
                 progress,
+                output,
             };
             sweep(rt, alloc, jobs, plan, source, out, err)
         }

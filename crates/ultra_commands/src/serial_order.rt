@@ -4,57 +4,53 @@ ghost use Rattle.std.specs.Prelude.{◌≡◌, ◌+◌, ◌++◌, false, IfErr, 
 ghost use Rattle.ultra_msg.specs.Bytes.{TakesPrefix};
 ghost use Rattle.ultra_io.specs.TextBuffer.{Writes, WritesPrefix, has_failed};
 ghost use Rattle.ultra_serial.specs.Ordered.{whole};
-ghost use Rattle.ultra_inputs.specs.Failure.{read_failures, write_failures};
+ghost use Rattle.ultra_inputs.specs.Failure.{write_failures};
+ghost use Rattle.ultra_inputs.specs.Traffic.{IsStopped};
 ghost use Rattle.ultra_commands.specs.Order.{order_of, order_text};
-ghost use Rattle.ultra_inputs.specs.Traffic.{traffic, IsStopped, WroteText, TextFails};
 
+use crate::run_output::RunOutput;
 use std::alloc::{AllocError, Global};
-use ultra_inputs::{Failure, Inputs, read_inputs};
-use ultra_io::{Source, TextBuffer};
+use ultra_inputs::Failure;
+use ultra_io::TextBuffer;
+use ultra_isa::Program;
 use ultra_list::put_entries;
+use ultra_model::Config;
 use ultra_msg::Sink;
 use ultra_serial::OrderedRun;
 
-/// Reads settings and a program, and writes the serial order of the run to `out`, a line for each
-/// request that was served. Each file is accepted before the next is read, and both before a byte
-/// is written.
-///
-/// The lines are written as the run goes: what is held doesn't grow with it. An error says what
-/// failed. `out` has then taken a prefix of the order, and nothing where a file was refused.
-pub(crate) fn order<'p, F: Source, O: Sink>(
-    alloc: Global,
-    settings_path: &'p str,
-    program_path: &'p str,
-    source: &mut F,
-    out: &mut O,
-) -> Result<(), Failure<'p>>
-    ensures ok { OnOk result (WroteText order_of settings_path.now program_path.now
-        (traffic (F.files source.old) (O.taken out.old)) (traffic (F.files source.new) (O.taken out.new))) }
-    ensures err { IfErr result (TextFails order_of IsStopped settings_path.now program_path.now
-        (traffic (F.files source.old) (O.taken out.old)) (traffic (F.files source.new) (O.taken out.new))) }
-    ensures read_still { OnOk result (F.failures source.new ≡ F.failures source.old) }
-    ensures read_counted { IfErr result
-        (λ f. F.failures source.new ≡ F.failures source.old + read_failures f) }
-    ensures write_still { OnOk result (O.failures out.new ≡ O.failures out.old) }
-    ensures write_counted { IfErr result
-        (λ f. O.failures out.new ≡ O.failures out.old + write_failures f) }
-{
-    let inputs = read_inputs(alloc, settings_path, program_path, source)?;
-    order_run(alloc, &inputs, out)
+/// The serial order of a run, a line for each request that was served.
+pub(crate) struct SerialOrder;
+
+impl RunOutput for SerialOrder {
+    ghost text = { λ _. order_of };
+
+    fn write<'p, S: Sink>(
+        &self,
+        alloc: Global,
+        config: &Config,
+        program: &Program,
+        sink: &mut S,
+    ) -> Result<(), Failure<'p>> {
+        order_run(alloc, config, program, sink)
+    }
 }
 
-/// Writes the lines of the serial order of a run.
-fn order_run<'p, O: Sink>(alloc: Global, inputs: &Inputs, out: &mut O) -> Result<(), Failure<'p>>
+/// Writes the lines of the serial order of a run, as the run goes: what is held doesn't grow with it.
+fn order_run<'p, O: Sink>(
+    alloc: Global,
+    config: &Config,
+    program: &Program,
+    out: &mut O,
+) -> Result<(), Failure<'p>>
     ensures ok { OnOk result
-        (O.taken out.new ≡ O.taken out.old ++ order_of inputs.now.config inputs.now.program) }
-    ensures err { OnErr result (TakesPrefix (order_of inputs.now.config inputs.now.program)
+        (O.taken out.new ≡ O.taken out.old ++ order_of config.now program.now) }
+    ensures err { OnErr result (TakesPrefix (order_of config.now program.now)
         (O.taken out.old) (O.taken out.new)) }
     ensures stopped { IfErr result IsStopped }
     ensures still { OnOk result (O.failures out.new ≡ O.failures out.old) }
     ensures counted { IfErr result
         (λ f. O.failures out.new ≡ O.failures out.old + write_failures f) }
 {
-    let Inputs { config, program } = inputs;
     let mut run = OrderedRun::new(alloc, config, program, config.cycles())?;
     write_order(&mut run, out)
 }

@@ -1,39 +1,64 @@
-//! The command `run`: it writes the trace of a program.
+//! The command `run`: it writes the trace of a program, or a part of it.
 
-ghost use Rattle.std.specs.Prelude.{◌≡◌, ◌+◌, IfErr, OnOk};
+ghost use Rattle.std.specs.Prelude.{◌≡◌, ◌≢◌, ◌+◌, ◌≤◌, ◌++◌, IfErr, IsTrue, OnErr, OnOk};
+ghost use Rattle.ultra_msg.specs.Bytes.{TakesPrefix};
+ghost use Rattle.ultra_trace.specs.RunFault.TheVariants.{NoThread};
+ghost use Rattle.ultra_trace_alone.specs.Faults.{sink_faults};
+ghost use Rattle.ultra_trace_alone.specs.Part.{part_of};
 ghost use Rattle.ultra_inputs.specs.Failure.{read_failures, write_failures};
-ghost use Rattle.ultra_inputs.specs.Traffic.{traffic, WroteText, TextFails};
-ghost use Rattle.ultra_commands.specs.Stops.{failure_of_run, IsStoppedBy};
-ghost use Rattle.ultra_trace.specs.Trace.{trace};
+ghost use Rattle.ultra_inputs.specs.Traffic.{traffic};
+ghost use Rattle.ultra_commands.specs.Outputs.{lines_asked, part_asked};
+ghost use Rattle.ultra_commands.specs.Stops.{failure_of_run, IsAll, RunFails, WroteRun};
 
 use std::alloc::Global;
 use std::sync::Wait;
 use std::thread::Threads;
-use ultra_args::Workers;
+use ultra_args::{LineFilter, Workers};
 use ultra_inputs::{Failure, Inputs, read_inputs};
 use ultra_io::Source;
+use ultra_isa::Program;
+use ultra_model::{Config, MOST_CYCLES};
 use ultra_msg::Sink;
-use ultra_trace::{Gate, Half, RunFault};
+use ultra_trace::{CycleLines, Gate, Half, RunFault, TracePart, run_part};
 
-/// Reads settings and a program, runs the program by `workers` threads and writes its trace to
-/// `out`: the same bytes for every number of workers. Each file is accepted before the next is
+/// Which part of a trace is asked for.
+pub(crate) fn part_asked(from: u32, to: u32, only: LineFilter) -> TracePart
+    ensures { result ≡ part_asked from to only }
+{
+    let lines = lines_asked(only);
+    TracePart { from, to, lines }
+}
+
+/// Which lines of a cycle are asked for.
+fn lines_asked(only: LineFilter) -> CycleLines
+    ensures { result ≡ lines_asked only }
+{
+    match only {
+        LineFilter::All => CycleLines::All,
+        LineFilter::Events => CycleLines::Events,
+        LineFilter::End => CycleLines::None,
+    }
+}
+
+/// Reads settings and a program, runs the program by `workers` threads and writes a part of its trace
+/// to `out`: the same bytes for every number of workers. Each file is accepted before the next is
 /// read, and both before a byte is written. The call may wait.
 ///
-/// An error says what failed. `out` has then taken a prefix of the trace, and nothing where a file
-/// was refused.
+/// An error says what failed. `out` has then taken a prefix of the part, and nothing where a file was
+/// refused.
 pub(crate) fn run<'p, R: Threads + Wait + Sync, F: Source, O: Sink>(
     rt: &R,
     alloc: Global,
     settings_path: &'p str,
     program_path: &'p str,
+    part: TracePart,
     workers: Workers,
     source: &mut F,
     out: &mut O,
 ) -> Result<(), Failure<'p>>
-    ensures ok { OnOk result (WroteText trace settings_path.now program_path.now
+    ensures ok { OnOk result (WroteRun part settings_path.now program_path.now
         (traffic (F.files source.old) (O.taken out.old)) (traffic (F.files source.new) (O.taken out.new))) }
-    ensures err { IfErr result (TextFails trace
-        (IsStoppedBy workers) settings_path.now program_path.now
+    ensures err { IfErr result (RunFails part workers settings_path.now program_path.now
         (traffic (F.files source.old) (O.taken out.old)) (traffic (F.files source.new) (O.taken out.new))) }
     ensures read_still { OnOk result (F.failures source.new ≡ F.failures source.old) }
     ensures read_counted { IfErr result
@@ -43,15 +68,52 @@ pub(crate) fn run<'p, R: Threads + Wait + Sync, F: Source, O: Sink>(
         (λ f. O.failures out.new ≡ O.failures out.old + write_failures f) }
 {
     let Inputs { config, program } = read_inputs(alloc, settings_path, program_path, source)?;
-    let count = workers.count();
-    match ultra_trace::run(rt, alloc, &config, &program, count, &OpenGate, out) {
+    // for the prover: a run has at most `MOST_CYCLES` cycles
+    let _cycles = config.cycles();
+    match write_part(rt, alloc, &config, &program, part, workers.count(), out) {
         Ok(()) => Ok(()),
         Err(fault) => Err(failure_of_run(fault)),
     }
 }
 
+/// Whether a part has all lines of all cycles.
+fn is_whole(part: &TracePart) -> bool
+    ensures { IsTrue result → IsAll part.now }
+{
+    part.from == 0 && part.to == MOST_CYCLES && part.lines == CycleLines::All
+}
+
+/// Runs a program by workers, and writes a part of its trace. The whole trace needs no look at which
+/// cycles are written.
+fn write_part<R: Threads + Wait + Sync, O: Sink>(
+    rt: &R,
+    alloc: Global,
+    config: &Config,
+    program: &Program,
+    part: TracePart,
+    workers: usize,
+    out: &mut O,
+) -> Result<(), RunFault>
+    requires some_worker { 1 ≤ workers }
+    requires most_workers { workers ≤ 64 }
+    ensures ok { OnOk result (O.taken out.new ≡ O.taken out.old ++ part_of part config.now program.now) }
+    ensures still { OnOk result (O.failures out.new ≡ O.failures out.old) }
+    ensures err { OnErr result (TakesPrefix (part_of part config.now program.now) (O.taken out.old)
+        (O.taken out.new)) }
+    ensures counted { IfErr result (λ e. O.failures out.new ≡ O.failures out.old + sink_faults e) }
+    ensures alone { workers ≡ 1 → IfErr result (λ e. e ≢ NoThread) }
+{
+    if is_whole(&part) {
+        // for the prover: a run has at most `MOST_CYCLES` cycles
+        let _cycles = config.cycles();
+        ultra_trace::run(rt, alloc, config, program, workers, &OpenGate, out)
+    } else {
+        run_part(rt, alloc, config, program, part, workers, &OpenGate, out)
+    }
+}
+
 /// The command's failure for a fault of the run.
-fn failure_of_run<'p>(fault: RunFault) -> Failure<'p>
+pub(crate) fn failure_of_run<'p>(fault: RunFault) -> Failure<'p>
     ensures { result ≡ failure_of_run fault }
 {
     match fault {

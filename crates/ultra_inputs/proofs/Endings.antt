@@ -4,22 +4,25 @@ use Rattle.std.specs.Prelude.{List}
 use Rattle.ultra_isa.specs.declared.Instr.{Instr}
 use Rattle.ultra_model.specs.Machine.{Settings}
 use Rattle.ultra_inputs.specs.declared.failure.Failure.{Failure}
-use Rattle.ultra_inputs.specs.declared.failure.Failure.TheVariants.{Usage, NotWords, NotRead, NotToml, BadField, UnknownKey, NotUtf8, BadLine, BadJob, BadParameter, NoMemory, NoThread, HeapFull, NotWritten}
+use Rattle.ultra_inputs.specs.declared.failure.Failure.TheVariants.{Usage, NotWords, NotRead, NotToml, BadField, UnknownKey, NotUtf8, BadLine, BadJob, NotAnEntry, BadPe, NotFenced, NotLegal, BadParameter, NoMemory, NoThread, HeapFull, NotWritten}
 use Rattle.ultra_inputs.specs.Failure.{status_of, read_failures, write_failures}
 use Rattle.ultra_inputs.specs.Status.{IsStatus, IsRefusal, status_failures}
 use Rattle.ultra_inputs.specs.Traffic.{Traffic, IsStopped, TextFails, refused, stopped}
 
+one : IsStatus 1
+one = inr (inl refl)
+
 two : IsStatus 2
-two = inr (inl refl)
+two = inr (inr (inl refl))
 
 three : IsStatus 3
-three = inr (inr (inl refl))
+three = inr (inr (inr (inl refl)))
 
 four : IsStatus 4
-four = inr (inr (inr (inl refl)))
+four = inr (inr (inr (inr (inl refl))))
 
 five : IsStatus 5
-five = inr (inr (inr (inr refl)))
+five = inr (inr (inr (inr (inr refl))))
 
 -- the status of a failure, and how often the source of files and standard output failed
 pub record Ends (f : Failure) : Type 0 where
@@ -38,6 +41,10 @@ ends (UnknownKey p) = record { status = three; bad = λ e. cc; unread = λ ne. r
 ends (NotUtf8 p) = record { status = three; bad = λ e. cc; unread = λ ne. refl; written = refl }
 ends (BadLine p l k) = record { status = three; bad = λ e. cc; unread = λ ne. refl; written = refl }
 ends (BadJob p) = record { status = three; bad = λ e. cc; unread = λ ne. refl; written = refl }
+ends (NotAnEntry p l) = record { status = three; bad = λ e. cc; unread = λ ne. refl; written = refl }
+ends (BadPe p l) = record { status = three; bad = λ e. cc; unread = λ ne. refl; written = refl }
+ends (NotFenced p k) = record { status = one; bad = λ e. cc; unread = λ ne. refl; written = refl }
+ends NotLegal = record { status = one; bad = λ e. cc; unread = λ ne. refl; written = refl }
 ends BadParameter = record { status = three; bad = λ e. cc; unread = λ ne. refl; written = refl }
 ends NoMemory = record { status = four; bad = λ e. cc; unread = λ ne. refl; written = refl }
 ends NoThread = record { status = four; bad = λ e. cc; unread = λ ne. refl; written = refl }

@@ -1,12 +1,12 @@
 -- how a command that failed ends: its status, and its line; this project's profile
-use Rattle.std.specs.Prelude.{ℕ, List, ◌++◌, codes, decimal, string_bytes}
+use Rattle.std.specs.Prelude.{ℕ, List, [], ◌++◌, codes, decimal, string_bytes}
 use Rattle.std.specs.declared.io.ErrorKind.{ErrorKind}
 use Rattle.std.specs.declared.io.ErrorKind.TheVariants.{OutOfMemory}
 use Rattle.ultra_asm.specs.declared.AsmFaultKind.{AsmFaultKind}
 use Rattle.ultra_asm.specs.declared.AsmFaultKind.TheVariants as kind
 use Rattle.ultra_model.specs.Accepted.{name_of}
 use Rattle.ultra_inputs.specs.declared.failure.Failure.{Failure}
-use Rattle.ultra_inputs.specs.declared.failure.Failure.TheVariants.{Usage, NotWords, NotRead, NotToml, BadField, UnknownKey, NotUtf8, BadLine, BadJob, BadParameter, NoMemory, NoThread, HeapFull, NotWritten}
+use Rattle.ultra_inputs.specs.declared.failure.Failure.TheVariants.{Usage, NotWords, NotRead, NotToml, BadField, UnknownKey, NotUtf8, BadLine, BadJob, NotAnEntry, BadPe, NotFenced, NotLegal, BadParameter, NoMemory, NoThread, HeapFull, NotWritten}
 
 -- what is wrong in a line of a program
 abbrev pub kind_text : AsmFaultKind → List ℕ
@@ -30,6 +30,10 @@ status_of (UnknownKey p) = 3
 status_of (NotUtf8 p) = 3
 status_of (BadLine p l k) = 3
 status_of (BadJob p) = 3
+status_of (NotAnEntry p l) = 3
+status_of (BadPe p l) = 3
+status_of (NotFenced p k) = 1
+status_of NotLegal = 1
 status_of BadParameter = 3
 status_of NoMemory = 4
 status_of NoThread = 4
@@ -50,6 +54,11 @@ write_failures _ = 0
 abbrev pub path_text : List ℕ → List ℕ
 path_text path = codes "ultra: " ++ path ++ codes ": "
 
+-- the line of a fault in a line of a file
+abbrev pub line_fault_text : List ℕ → ℕ → List ℕ → List ℕ
+line_fault_text path l what =
+    path_text path ++ codes "line " ++ decimal l ++ codes ": " ++ what ++ codes "\n"
+
 -- why the words of the command line couldn't be had, by the kind of the error
 abbrev pub failure_of_words : ErrorKind → Failure
 failure_of_words OutOfMemory = NoMemory
@@ -64,9 +73,14 @@ text_of (NotToml p) = path_text p.now ++ codes "not toml" ++ codes "\n"
 text_of (BadField p f) = path_text p.now ++ codes "bad " ++ name_of f ++ codes "\n"
 text_of (UnknownKey p) = path_text p.now ++ codes "unknown key" ++ codes "\n"
 text_of (NotUtf8 p) = path_text p.now ++ codes "not utf-8" ++ codes "\n"
-text_of (BadLine p l k) =
-    path_text p.now ++ codes "line " ++ decimal l ++ codes ": " ++ kind_text k ++ codes "\n"
+text_of (BadLine p l k) = line_fault_text p.now l (kind_text k)
 text_of (BadJob p) = path_text p.now ++ codes "bad job" ++ codes "\n"
+text_of (NotAnEntry p l) = line_fault_text p.now l (codes "not an entry")
+text_of (BadPe p l) = line_fault_text p.now l (codes "bad pe")
+text_of (NotFenced p k) =
+    path_text p.now ++ codes "instruction " ++ decimal k ++ codes ": "
+    ++ codes "not followed by fence" ++ codes "\n"
+text_of NotLegal = []
 text_of BadParameter = codes "ultra: bad parameter\n"
 text_of NoMemory = codes "ultra: no memory\n"
 text_of NoThread = codes "ultra: no thread\n"

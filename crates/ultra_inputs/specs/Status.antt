@@ -1,9 +1,10 @@
 -- the status with which a program ends; this project's profile
 use Rattle.std.specs.Prelude.{◌≡◌, ℕ, ◌⊎◌, ◌==◌, if◌then◌else◌}
 
--- one of the statuses: done, a usage fault, refused input, no memory or thread, a failed write
+-- one of the statuses: done, not legal or not careful, a usage fault, refused input, no memory or
+-- thread, a failed write
 abbrev pub IsStatus : ℕ → Type 0
-IsStatus s = (s ≡ 0) ⊎ (s ≡ 2) ⊎ (s ≡ 3) ⊎ (s ≡ 4) ⊎ (s ≡ 5)
+IsStatus s = (s ≡ 0) ⊎ (s ≡ 1) ⊎ (s ≡ 2) ⊎ (s ≡ 3) ⊎ (s ≡ 4) ⊎ (s ≡ 5)
 
 -- nothing was written: the words are no command, or an input is refused
 abbrev pub IsRefusal : ℕ → Type 0

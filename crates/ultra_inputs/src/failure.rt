@@ -41,6 +41,32 @@ pub enum Failure<'a> {
     },
     /// The file lists no jobs, or not as a file of jobs does.
     BadJob(&'a str),
+    /// A line of a list isn't an entry. Lines count from 1.
+    NotAnEntry {
+        /// The path of the list's file.
+        path: &'a str,
+        /// The number of the line.
+        line: usize,
+    },
+    /// A line of a schedule has a word that isn't the number of a processing element. Lines count
+    /// from 1.
+    BadPe {
+        /// The path of the schedule's file.
+        path: &'a str,
+        /// The number of the line.
+        line: usize,
+    },
+    /// An instruction of the program refers to a cell, and no fence follows it directly.
+    /// Instructions count from 0.
+    NotFenced {
+        /// The path of the program's file.
+        path: &'a str,
+        /// The number of the instruction.
+        instruction: usize,
+    },
+    /// The list isn't a serial order of the run. Standard output shows why, so standard error takes
+    /// nothing.
+    NotLegal,
     /// A number for a coordination program is out of its range.
     BadParameter,
     /// Memory was refused.
@@ -64,12 +90,14 @@ impl<'a> From<AllocError> for Failure<'a> {
 }
 
 impl Failure<'_> {
-    /// The status that the program ends with: 2 for a usage fault, 3 for refused input, 4 where
-    /// memory or a thread was refused or the heap is full, 5 where standard output failed.
+    /// The status that the program ends with: 1 for a list that isn't legal and a program that isn't
+    /// careful, 2 for a usage fault, 3 for refused input, 4 where memory or a thread was refused or
+    /// the heap is full, 5 where standard output failed.
     pub fn status(&self) -> u8
         ensures { result ≡ status_of self.now }
     {
         match self {
+            Failure::NotLegal | Failure::NotFenced { .. } => 1,
             Failure::Usage(_) | Failure::NotWords => 2,
             Failure::NotRead(_)
             | Failure::NotToml(_)
@@ -78,14 +106,16 @@ impl Failure<'_> {
             | Failure::NotUtf8(_)
             | Failure::BadLine { .. }
             | Failure::BadJob(_)
+            | Failure::NotAnEntry { .. }
+            | Failure::BadPe { .. }
             | Failure::BadParameter => 3,
             Failure::NoMemory | Failure::NoThread | Failure::HeapFull => 4,
             Failure::NotWritten => 5,
         }
     }
 
-    /// Writes what goes to standard error: the text of a usage fault, else one line. It takes no
-    /// memory.
+    /// Writes what goes to standard error: the text of a usage fault, nothing for a list that isn't
+    /// legal, else one line. It takes no memory.
     pub fn write_to<E: Sink>(&self, err: &mut E) -> Result<(), SinkFault>
         ensures ok { OnOk result (E.taken err.new ≡ E.taken err.old ++ text_of self.now) }
         ensures still { OnOk result (E.failures err.new ≡ E.failures err.old) }
@@ -109,8 +139,16 @@ impl Failure<'_> {
             Failure::BadField(path, field) => write_bad_value(err, path, field.name()),
             Failure::UnknownKey(path) => write_refusal(err, path, "unknown key"),
             Failure::NotUtf8(path) => write_refusal(err, path, "not utf-8"),
-            Failure::BadLine { path, line, kind } => write_bad_line(err, path, *line, *kind),
+            Failure::BadLine { path, line, kind } => {
+                write_line_fault(err, path, *line, kind_text(*kind))
+            }
             Failure::BadJob(path) => write_refusal(err, path, "bad job"),
+            Failure::NotAnEntry { path, line } => {
+                write_line_fault(err, path, *line, "not an entry")
+            }
+            Failure::BadPe { path, line } => write_line_fault(err, path, *line, "bad pe"),
+            Failure::NotFenced { path, instruction } => write_unfenced(err, path, *instruction),
+            Failure::NotLegal => Ok(()),
             Failure::BadParameter => write_all(err, b"ultra: bad parameter\n"),
             Failure::NoMemory => write_all(err, b"ultra: no memory\n"),
             Failure::NoThread => write_all(err, b"ultra: no thread\n"),
@@ -179,30 +217,43 @@ fn write_bad_value<E: Sink>(err: &mut E, path: &str, name: &str) -> Result<(), S
     )
 }
 
-/// Writes the line that names the faulty line of a program, by its number, and its fault.
-fn write_bad_line<E: Sink>(
-    err: &mut E,
-    path: &str,
-    line: usize,
-    kind: AsmFaultKind,
-) -> Result<(), SinkFault>
-    ensures { Writes result
-        (path_text path.now ++ codes "line " ++ decimal line ++ codes ": " ++ kind_text kind ++
-        codes "\n") (E.taken err.old) (E.taken err.new) (E.failures err.old) (E.failures err.new) }
-{
-    let mut digits = Buffer::new();
-    write_line_fault(err, path, digits.format(line), kind_text(kind))
-}
-
-/// Writes that line, with the number and the fault as texts.
+/// Writes the line that names the faulty line of a file, by its number, and its fault.
 fn write_line_fault<E: Sink>(
     err: &mut E,
     path: &str,
+    line: usize,
+    what: &str,
+) -> Result<(), SinkFault>
+    ensures { Writes result
+        (path_text path.now ++ codes "line " ++ decimal line ++ codes ": " ++ what.now ++ codes "\n")
+        (E.taken err.old) (E.taken err.new) (E.failures err.old) (E.failures err.new) }
+{
+    let mut digits = Buffer::new();
+    write_numbered(err, path, "line ", digits.format(line), what)
+}
+
+/// Writes the line that names an instruction without its fence, by its number.
+fn write_unfenced<E: Sink>(err: &mut E, path: &str, instruction: usize) -> Result<(), SinkFault>
+    ensures { Writes result
+        (path_text path.now ++ codes "instruction " ++ decimal instruction ++ codes ": " ++
+        codes "not followed by fence" ++ codes "\n")
+        (E.taken err.old) (E.taken err.new) (E.failures err.old) (E.failures err.new) }
+{
+    let mut digits = Buffer::new();
+    let number = digits.format(instruction);
+    write_numbered(err, path, "instruction ", number, "not followed by fence")
+}
+
+/// Writes the line of a fault at a numbered place of a file, with the number as a text.
+fn write_numbered<E: Sink>(
+    err: &mut E,
+    path: &str,
+    place: &str,
     number: &str,
     what: &str,
 ) -> Result<(), SinkFault>
     ensures { Writes result
-        (path_text path.now ++ codes "line " ++ number.now ++ codes ": " ++ what.now ++ codes "\n")
+        (path_text path.now ++ place.now ++ number.now ++ codes ": " ++ what.now ++ codes "\n")
         (E.taken err.old) (E.taken err.new) (E.failures err.old) (E.failures err.new) }
 {
     write_pieces(
@@ -211,7 +262,7 @@ fn write_line_fault<E: Sink>(
             b"ultra: ",
             path.as_bytes(),
             b": ",
-            b"line ",
+            place.as_bytes(),
             number.as_bytes(),
             b": ",
             what.as_bytes(),

@@ -1,10 +1,11 @@
 -- a failure that isn't one of standard output, and that none has the status 0
-use Rattle.std.proofs.Common.{◌≡◌, ℕ, List, refl, arith}
+use Rattle.std.proofs.Common.{◌≡◌, ℕ, List, refl}
 use Rattle.ultra_io.specs.Source.{File}
 use Rattle.ultra_inputs.specs.declared.failure.Failure.{Failure}
-use Rattle.ultra_inputs.specs.declared.failure.Failure.TheVariants.{Usage, NotWords, NotRead, NotToml, BadField, UnknownKey, NotUtf8, BadLine, BadJob, BadParameter, NoMemory, NoThread, HeapFull, NotWritten}
+use Rattle.ultra_inputs.specs.declared.failure.Failure.TheVariants.{Usage, NotWords, NotRead, NotToml, BadField, UnknownKey, NotUtf8, BadLine, BadJob, NotAnEntry, BadPe, NotFenced, NotLegal, BadParameter, NoMemory, NoThread, HeapFull, NotWritten}
 use Rattle.ultra_inputs.specs.Failure.{status_of, write_failures}
 use Rattle.ultra_inputs.specs.Inputs.{IsUnread, FileGaveNothing, not_had, not_accepted}
+use Rattle.ultra_inputs.proofs.Endings.{ends}
 use Rattle.ultra_sweep_command.specs.Jobs.{ExplainsJobs}
 
 -- what can't be a failed write counts none
@@ -18,6 +19,10 @@ none P never (UnknownKey p) e = refl
 none P never (NotUtf8 p) e = refl
 none P never (BadLine p l k) e = refl
 none P never (BadJob p) e = refl
+none P never (NotAnEntry p l) e = refl
+none P never (BadPe p l) e = refl
+none P never (NotFenced p k) e = refl
+none P never NotLegal e = refl
 none P never BadParameter e = refl
 none P never NoMemory e = refl
 none P never NoThread e = refl
@@ -30,17 +35,4 @@ unlisted_none path old new f (not_had why same) = none (λ g. IsUnread path g) (
 unlisted_none path old new f (not_accepted text why files) = none (λ g. ExplainsJobs path text g) (λ e. e) f why
 
 pub never_done : (f : Failure) → ¬ status_of f ≡ 0
-never_done (Usage t) e = absurd (omega arith)
-never_done NotWords e = absurd (omega arith)
-never_done (NotRead p) e = absurd (omega arith)
-never_done (NotToml p) e = absurd (omega arith)
-never_done (BadField p f) e = absurd (omega arith)
-never_done (UnknownKey p) e = absurd (omega arith)
-never_done (NotUtf8 p) e = absurd (omega arith)
-never_done (BadLine p l k) e = absurd (omega arith)
-never_done (BadJob p) e = absurd (omega arith)
-never_done BadParameter e = absurd (omega arith)
-never_done NoMemory e = absurd (omega arith)
-never_done NoThread e = absurd (omega arith)
-never_done HeapFull e = absurd (omega arith)
-never_done NotWritten e = absurd (omega arith)
+never_done f = (ends f).bad

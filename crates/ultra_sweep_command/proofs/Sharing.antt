@@ -5,9 +5,11 @@ use Rattle.std.proofs.lemmas.List.Elements.{All-append}
 use Rattle.std.specs.List.{All}
 use Rattle.ultra_board.specs.Seat.{Seated, Opened}
 use Rattle.ultra_board.specs.View.{joined_view, second_view}
+use Rattle.ultra_args.specs.declared.sweep_output.SweepOutput.{SweepOutput}
 use Rattle.ultra_sweep.specs.declared.job.Job.{Job}
 use Rattle.ultra_sweep.specs.declared.job.JobResult.{JobResult}
 use Rattle.ultra_sweep.specs.Job.{job_numbers, IsResultAmong}
+use Rattle.ultra_sweep_command.specs.Output.{job_output}
 use Rattle.ultra_sweep_command.specs.declared.seat_results.SeatResults.{SeatResults}
 use Rattle.ultra_sweep_command.specs.SeatResults.{IsFresh, AreSeatResults, AreWholeResults, HasRead}
 
@@ -44,14 +46,14 @@ module _ (board : Opened) (n : ℕ) (seat : Seated) where
   }
 
 -- the results of a seat that is spent, and those of a seat of one place, become those of one seat
-module _ (board : Opened) (jobs : List Job) (n : ℕ) (seat_results other all : SeatResults) where
+module _ (output : SweepOutput) (board : Opened) (jobs : List Job) (n : ℕ) (seat_results other all : SeatResults) where
   drawn-joined : all.seat.view ≡ joined_view seat_results.seat.view other.seat.view → all.results.items ≡ seat_results.results.items ++ other.results.items → seat_results.seat.view.drawn ≡ job_numbers seat_results.results.items → other.seat.view.drawn ≡ job_numbers other.results.items → all.seat.view.drawn ≡ job_numbers all.results.items
   drawn-joined view results first second =
       let both : seat_results.seat.view.drawn ++ other.seat.view.drawn ≡ job_numbers seat_results.results.items ++ job_numbers other.results.items =
       ap (λ ks. ks ++ other.seat.view.drawn) first ∙ ap (λ ks. job_numbers seat_results.results.items ++ ks) second in
       ap (λ v. v.drawn) view ∙ (both ∙ (sym (map-append (λ (r : JobResult). r.number) seat_results.results.items other.results.items) ∙ ap job_numbers (sym results)))
 
-  pub whole-joined : all.seat ≡ record seat_results.seat { view = joined_view seat_results.seat.view other.seat.view } → all.results.items ≡ seat_results.results.items ++ other.results.items → AreWholeResults board jobs n seat_results → AreSeatResults board jobs 1 other → AreWholeResults board jobs (n + 1) all
+  pub whole-joined : all.seat ≡ record seat_results.seat { view = joined_view seat_results.seat.view other.seat.view } → all.results.items ≡ seat_results.results.items ++ other.results.items → AreWholeResults output board jobs n seat_results → AreSeatResults output board jobs 1 other → AreWholeResults output board jobs (n + 1) all
   whole-joined seat results whole part =
       let view = ap (λ s. s.view) seat in record {
         part = record {
@@ -59,7 +61,7 @@ module _ (board : Opened) (jobs : List Job) (n : ℕ) (seat_results other all : 
           same_places = ap (λ v. v.places) view ∙ (ap (λ k. k + other.seat.view.places) whole.part.same_places ∙ ap (λ k. n + k) part.same_places);
           same_limit = ap (λ v. v.limit) view ∙ whole.part.same_limit;
           drawn = drawn-joined view results whole.part.drawn part.drawn;
-          results = subst (All (IsResultAmong jobs)) (sym results) (All-append (IsResultAmong jobs) seat_results.results.items other.results.items whole.part.results part.results);
+          results = subst (All (IsResultAmong (job_output output) jobs)) (sym results) (All-append (IsResultAmong (job_output output) jobs) seat_results.results.items other.results.items whole.part.results part.results);
         };
         spent = rw (ap (λ v. v.spent) view, whole.spent) refl;
       }

@@ -2,8 +2,10 @@
 use Rattle.std.specs.Prelude.{◌≡◌, ℕ, ◌+◌, ◌-◌, min, if◌then◌else◌, List, [], All, true, length}
 use Rattle.ultra_board.specs.Seat.{Seated, Opened}
 use Rattle.ultra_board.specs.declared.rule.View.{View}
+use Rattle.ultra_args.specs.declared.sweep_output.SweepOutput.{SweepOutput}
 use Rattle.ultra_sweep.specs.declared.job.Job.{Job}
 use Rattle.ultra_sweep.specs.Job.{job_numbers, IsResultAmong}
+use Rattle.ultra_sweep_command.specs.Output.{job_output}
 use Rattle.ultra_sweep_command.specs.declared.SweepPlan.{SweepPlan}
 use Rattle.ultra_sweep_command.specs.declared.seat_results.SeatResults.{SeatResults}
 use Rattle.ultra_sweep_command.specs.declared.task.SweepTask.{SweepTask}
@@ -23,18 +25,18 @@ pub record IsFresh (board : Opened) (places : ℕ) (seat : Seated) : Type 0 wher
   pub no_pass : seat.view.held ≡ 0
 
 -- a seat with this many places, and a result for each job that it has drawn
-pub record AreSeatResults (board : Opened) (jobs : List Job) (places : ℕ)
+pub record AreSeatResults (output : SweepOutput) (board : Opened) (jobs : List Job) (places : ℕ)
     (seat_results : SeatResults) : Type 0 where
   pub same_board : seat_results.seat.board ≡ board.id
   pub same_places : seat_results.seat.view.places ≡ places
   pub same_limit : seat_results.seat.view.limit ≡ board.limits.limit
   pub drawn : seat_results.seat.view.drawn ≡ job_numbers seat_results.results.items
-  pub results : All (IsResultAmong jobs) seat_results.results.items
+  pub results : All (IsResultAmong (job_output output) jobs) seat_results.results.items
 
 -- all of it: no job is left to draw
-pub record AreWholeResults (board : Opened) (jobs : List Job) (places : ℕ)
+pub record AreWholeResults (output : SweepOutput) (board : Opened) (jobs : List Job) (places : ℕ)
     (seat_results : SeatResults) : Type 0 where
-  pub part : AreSeatResults board jobs places seat_results
+  pub part : AreSeatResults output board jobs places seat_results
   pub spent : seat_results.seat.view.spent ≡ true
 
 -- the board is one of these jobs

@@ -1,84 +1,81 @@
 -- what a sweep reads, writes and shows; this project's profile
-use Rattle.std.specs.Prelude.{◌≡◌, ◌+◌, ℕ, ◌⊎◌, Bool, List, [], ◌∷◌, ◌++◌, length, map}
+use Rattle.std.specs.Prelude.{◌≡◌, ◌+◌, ℕ, ◌⊎◌, Bool, List, [], ◌∷◌, ◌++◌, length}
 use Rattle.ultra_msg.specs.Bytes.{TakesPrefix}
 use Rattle.ultra_io.specs.Account.{SinkState}
 use Rattle.ultra_io.specs.Source.{file_of}
 use Rattle.ultra_settings.specs.JobsText.{Paths, Gives}
+use Rattle.ultra_args.specs.declared.sweep_output.SweepOutput.{SweepOutput}
 use Rattle.ultra_inputs.specs.declared.failure.Failure.{Failure}
 use Rattle.ultra_inputs.specs.declared.failure.Failure.TheVariants.{NoMemory, NoThread, NotWritten}
 use Rattle.ultra_inputs.specs.Failure.{status_of, read_failures}
 use Rattle.ultra_inputs.specs.Inputs.{FileGaveNothing}
 use Rattle.ultra_inputs.specs.Traffic.{Traffic, with_files}
 use Rattle.ultra_sweep.specs.declared.job.Job.{Job}
-use Rattle.ultra_sweep.specs.Job.{trace_of}
-use Rattle.ultra_sweep.specs.Report.{report_text}
 use Rattle.ultra_sweep_command.specs.declared.fault.SweepFault.{SweepFault}
 use Rattle.ultra_sweep_command.specs.declared.fault.SweepFault.TheVariants as fault
 use Rattle.ultra_sweep_command.specs.Jobs.{ExplainsJobs, GaveJobs, GaveNoJobs}
+use Rattle.ultra_sweep_command.specs.Output.{swept_text}
 use Rattle.ultra_inputs.specs.Shown.{IsReported}
 use Rattle.ultra_sweep_command.specs.Shown.{IsProgressShown}
-
--- for each job in order the line `job I`, and its trace
-abbrev pub report_of : List Job → List ℕ
-report_of jobs = report_text (map trace_of jobs)
 
 -- what a fault of the threads is for the command
 abbrev pub failure_of : SweepFault → Failure
 failure_of fault.NoMemory = NoMemory
 failure_of fault.NoThread = NoThread
 
--- why jobs that were read have no report
+-- why nothing is written of jobs that were read
 abbrev pub StopsJobs : Failure → Type 0
 StopsJobs f = (f ≡ NoMemory) ⊎ (f ≡ NoThread)
 
--- the jobs at these paths were read, their report was written, and the last count shown is that of
--- all jobs
-pub record SweptJobs (paths : List Paths) (progress : Bool) (old new : Traffic)
-    (before after : SinkState) : Type 0 where
+-- the jobs at these paths were read, the output was written of them, and the last count shown is
+-- that of all jobs
+pub record SweptJobs (paths : List Paths) (output : SweepOutput) (progress : Bool)
+    (old new : Traffic) (before after : SinkState) : Type 0 where
   pub jobs : List Job
   pub gave : GaveJobs paths old.files new.files jobs
-  pub written : new.written ≡ old.written ++ report_of jobs
+  pub written : new.written ≡ old.written ++ swept_text output jobs
   pub shown : IsProgressShown progress (length jobs) (length jobs) before after
 
--- how that fails: all files are accepted before a byte is written, and all jobs are run. So a
--- report is not begun, or the last count shown is that of all jobs and the report is cut
-pub data JobsFail (paths : List Paths) (progress : Bool) (old new : Traffic)
-    (before after : SinkState) (f : Failure) : Type 0 where
+-- how that fails: all files are accepted before a byte is written, and all jobs are run. So the
+-- output is not begun, or the last count shown is that of all jobs and the output is cut
+pub data JobsFail (paths : List Paths) (output : SweepOutput) (progress : Bool)
+    (old new : Traffic) (before after : SinkState) (f : Failure) : Type 0 where
   refused : GaveNoJobs paths old.files new.files f → new.written ≡ old.written → after ≡ before
-      → JobsFail paths progress old new before after f
+      → JobsFail paths output progress old new before after f
   not_run : (jobs : List Job) (last : ℕ) → GaveJobs paths old.files new.files jobs → StopsJobs f
       → new.written ≡ old.written → IsProgressShown progress (length jobs) last before after
-      → JobsFail paths progress old new before after f
+      → JobsFail paths output progress old new before after f
   unwritten : (jobs : List Job) → GaveJobs paths old.files new.files jobs → f ≡ NotWritten
-      → TakesPrefix (report_of jobs) old.written new.written
+      → TakesPrefix (swept_text output jobs) old.written new.written
       → IsProgressShown progress (length jobs) (length jobs) before after
-      → JobsFail paths progress old new before after f
+      → JobsFail paths output progress old new before after f
 
 -- a file of jobs was read, and its jobs were swept
-pub record Swept (path : List ℕ) (progress : Bool) (old new : Traffic)
-    (before after : SinkState) : Type 0 where
+pub record Swept (path : List ℕ) (output : SweepOutput) (progress : Bool)
+    (old new : Traffic) (before after : SinkState) : Type 0 where
   pub text : List ℕ
   pub paths : List Paths
   pub listed : Gives text paths
-  pub swept : SweptJobs paths progress (with_files old (file_of path text ∷ [])) new before after
+  pub swept : SweptJobs paths output progress (with_files old (file_of path text ∷ [])) new
+      before after
 
 -- how that fails: the file is accepted before those that it names are read
-pub data SweepFails (path : List ℕ) (progress : Bool) (old new : Traffic)
-    (before after : SinkState) (f : Failure) : Type 0 where
+pub data SweepFails (path : List ℕ) (output : SweepOutput) (progress : Bool)
+    (old new : Traffic) (before after : SinkState) (f : Failure) : Type 0 where
   unlisted : FileGaveNothing ExplainsJobs path old.files new.files f → new.written ≡ old.written
-      → after ≡ before → SweepFails path progress old new before after f
+      → after ≡ before → SweepFails path output progress old new before after f
   listed : (text : List ℕ) (paths : List Paths) → Gives text paths
-      → JobsFail paths progress (with_files old (file_of path text ∷ [])) new before after f
-      → SweepFails path progress old new before after f
+      → JobsFail paths output progress (with_files old (file_of path text ∷ [])) new before after f
+      → SweepFails path output progress old new before after f
 
 -- a sweep ended with this status: it failed so, and the failure was reported after what was shown.
 -- The source of files has failed in it as often as the failure says
-pub record HasFailed (path : List ℕ) (progress : Bool) (old new : Traffic)
-    (before after : SinkState)
+pub record HasFailed (path : List ℕ) (output : SweepOutput) (progress : Bool)
+    (old new : Traffic) (before after : SinkState)
     (source_failures source_failures_after status : ℕ) : Type 0 where
   pub failure : Failure
   pub shown : SinkState
   pub same_status : status_of failure ≡ status
-  pub why : SweepFails path progress old new before shown failure
+  pub why : SweepFails path output progress old new before shown failure
   pub report : IsReported failure shown after
   pub read_counted : source_failures_after ≡ source_failures + read_failures failure

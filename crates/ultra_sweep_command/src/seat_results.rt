@@ -1,6 +1,7 @@
 //! What a thread of a sweep gives back.
 
 ghost use Rattle.std.specs.Prelude.{◌≡◌, ℕ, ◌+◌, List, IfOk};
+ghost use Rattle.ultra_args.specs.declared.sweep_output.SweepOutput.{SweepOutput};
 ghost use Rattle.ultra_sweep.specs.declared.job.Job.{Job};
 ghost use Rattle.ultra_sweep_command.specs.SeatResults.{AreSeatResults, AreWholeResults};
 
@@ -25,8 +26,10 @@ pub(crate) fn join_seat_results(
 ) -> Result<SeatResults, AllocError>
     requires seat_results { seat_results.seat.board ≡ board.now.id }
     requires other { other.seat.board ≡ board.now.id }
-    ensures { IfOk result (λ all. (jobs : List Job) (n : ℕ) → AreWholeResults board.now jobs n seat_results →
-        AreSeatResults board.now jobs 1 other → AreWholeResults board.now jobs (n + 1) all) }
+    ensures { IfOk result (λ all. (output : SweepOutput) (jobs : List Job) (n : ℕ) →
+        AreWholeResults output board.now jobs n seat_results →
+        AreSeatResults output board.now jobs 1 other →
+        AreWholeResults output board.now jobs (n + 1) all) }
 {
     let SeatResults { seat, mut results } = seat_results;
     results.append(&mut other.results)?;

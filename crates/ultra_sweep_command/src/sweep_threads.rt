@@ -8,7 +8,7 @@ ghost use Rattle.ultra_sweep_command.specs.Shown.{HasShown};
 ghost use Rattle.ultra_sweep_command.specs.declared.fault.SweepFault.TheVariants.{NoThread};
 
 use crate::fault::SweepFault;
-use crate::gate::RunAlone;
+use crate::gate::OutputGate;
 use crate::meter::ProgressMeter;
 use crate::seat_results::{SeatResults, join_seat_results};
 use crate::task::SweepTask;
@@ -34,7 +34,7 @@ pub struct SweepThreads<'a> {
 }
 
 impl<'a> SweepThreads<'a> {
-    /// Starts `count` threads, at most 63, each with a seat of its own. On every return path the threads
+    /// Starts `count` threads, at most 63, each with its own seat. On every return path the threads
     /// that were started are joined: by `finish`, or here where one couldn't be started.
     pub(crate) fn start<S, R: Threads + Wait + Sync>(
         scope: &Scope<'a, S>,
@@ -71,8 +71,8 @@ impl<'a> SweepThreads<'a> {
         Ok(sweep_threads)
     }
 
-    /// Shows how many jobs are finished, whenever a thread has notified the signal, until all threads
-    /// have ended.
+    /// Shows how many jobs are finished, whenever a thread has notified the signal, until all
+    /// threads have ended.
     pub(crate) fn watch<R: Wait, E: Sink>(&mut self, rt: &R, meter: &mut ProgressMeter, err: &mut E)
         requires { AreSweepThreads self.old }
         ensures sweep_threads { AreSweepThreads self.new }
@@ -86,6 +86,7 @@ impl<'a> SweepThreads<'a> {
         let SweepTask {
             board,
             jobs: _,
+            output: _,
             signal,
         } = self.task;
         let threads = self.threads.len() as u64;
@@ -108,15 +109,16 @@ impl<'a> SweepThreads<'a> {
         alloc: Global,
     ) -> Result<SeatResults, AllocError>
         requires { AreSweepThreads self }
-        ensures { IfOk result (AreWholeResults self.entry.task.board.now self.entry.task.jobs.now
-            (length self.entry.threads.items + 1)) }
+        ensures { IfOk result (AreWholeResults self.entry.task.output.now self.entry.task.board.now
+            self.entry.task.jobs.now (length self.entry.threads.items + 1)) }
     {
         let SweepThreads {
             task,
             seat,
             threads,
         } = self;
-        let (seat, results) = work(rt, alloc, task.board, seat, task.jobs, &RunAlone);
+        let gate = OutputGate(task.output);
+        let (seat, results) = work(rt, alloc, task.board, seat, task.jobs, &gate);
         let Ok(results) = results else {
             let sweep_threads = SweepThreads {
                 task,
@@ -179,16 +181,18 @@ fn start_thread<'a, S, R: Threads + Wait + Sync>(
     let SweepTask {
         board,
         jobs,
+        output,
         signal,
     } = task;
     let part = move || -> SeatResults
         requires task { board.now.limits.limit ≡ length jobs.now }
         requires fresh { IsFresh board.now 1 seat }
-        ensures { AreSeatResults board.entry.now jobs.entry.now 1 result }
+        ensures { AreSeatResults output.entry.now board.entry.now jobs.entry.now 1 result }
     {
         SweepTask {
             board,
             jobs,
+            output,
             signal,
         }
         .take_part(rt, alloc, seat)
@@ -220,9 +224,10 @@ fn join_all<'a, R: Threads>(
     own: SeatResults,
     threads: Vec<Thread<'a>>,
 ) -> Result<SeatResults, AllocError>
-    requires own { AreWholeResults task.board.now task.jobs.now 1 own }
+    requires own { AreWholeResults task.output.now task.board.now task.jobs.now 1 own }
     requires parts { All (λ thread. thread.promise ≡ task) threads.items }
-    ensures { IfOk result (AreWholeResults task.entry.board.now task.entry.jobs.now (length threads.entry.items + 1)) }
+    ensures { IfOk result (AreWholeResults task.entry.output.now task.entry.board.now
+        task.entry.jobs.now (length threads.entry.items + 1)) }
 {
     let mut all = Ok(own);
     for thread in threads {

@@ -1,14 +1,16 @@
 //! What one thread of a sweep does.
 
 ghost use Rattle.std.specs.Prelude.{◌≡◌};
+ghost use Rattle.ultra_sweep_command.specs.Output.{job_output};
 ghost use Rattle.ultra_sweep_command.specs.SeatResults.{IsFresh, AreSeatResults, IsSweepTask};
 
-use crate::gate::RunAlone;
+use crate::gate::OutputGate;
 use crate::seat_results::SeatResults;
 use crate::signal::DoneSignal;
 use std::alloc::Global;
 use std::sync::Wait;
 use std::thread::Promise;
+use ultra_args::SweepOutput;
 use ultra_board::{Board, Seat};
 use ultra_sweep::{Job, JobGate, JobResult, work};
 
@@ -19,6 +21,8 @@ pub struct SweepTask<'a> {
     pub board: &'a Board,
     /// The jobs.
     pub jobs: &'a [Job],
+    /// What is written of them.
+    pub output: &'a SweepOutput,
     /// What each thread notifies when a job is done and when it ends.
     pub signal: &'a DoneSignal,
 }
@@ -26,7 +30,8 @@ pub struct SweepTask<'a> {
 impl<'a> Promise<SeatResults> for SweepTask<'a> {
     ghost use Rattle.ultra_sweep_command.specs.SeatResults.{AreSeatResults};
 
-    ghost kept_by = { λ task seat_results. AreSeatResults task.board.now task.jobs.now 1 seat_results };
+    ghost kept_by = { λ task seat_results.
+        AreSeatResults task.output.now task.board.now task.jobs.now 1 seat_results };
 }
 
 impl SweepTask<'_> {
@@ -35,9 +40,12 @@ impl SweepTask<'_> {
     pub(crate) fn take_part<R: Wait>(&self, rt: &R, alloc: Global, seat: Seat) -> SeatResults
         requires task { IsSweepTask self.now }
         requires fresh { IsFresh self.now.board.now 1 seat }
-        ensures { AreSeatResults self.now.board.now self.now.jobs.now 1 result }
+        ensures { AreSeatResults self.now.output.now self.now.board.now self.now.jobs.now 1 result }
     {
-        let gate = NotifyingGate(self.signal);
+        let gate = NotifyingGate {
+            gate: OutputGate(self.output),
+            signal: self.signal,
+        };
         let (seat, results) = work(rt, alloc, self.board, seat, self.jobs, &gate);
         self.signal.notify_end();
         SeatResults {
@@ -49,9 +57,14 @@ impl SweepTask<'_> {
 
 /// Runs each job as the program does, and notifies the signal when it is done.
 #[derive(Clone, Copy)]
-struct NotifyingGate<'b>(&'b DoneSignal);
+pub(crate) struct NotifyingGate<'b> {
+    gate: OutputGate<'b>,
+    signal: &'b DoneSignal,
+}
 
 impl JobGate for NotifyingGate<'_> {
+    ghost text = { λ notifying. job_output notifying.gate.0.now };
+
     fn run<R: Wait>(
         &self,
         rt: &R,
@@ -60,8 +73,8 @@ impl JobGate for NotifyingGate<'_> {
         number: u64,
         job: &Job,
     ) -> JobResult {
-        let result = RunAlone.run(rt, alloc, seat, number, job);
-        self.0.notify();
+        let result = self.gate.run(rt, alloc, seat, number, job);
+        self.signal.notify();
         result
     }
 }

@@ -7,11 +7,11 @@ use Rattle.ultra_args.specs.Grammar.{ultra_app}
 use Rattle.ultra_args.proofs.matched_command.Goals as goal
 
 simple : is_simple ultra_app ≡ true
-unfolding clap_on_literals
+unfolding clap_on_literals ultra_app
 simple = refl
 
 free : is_simple_and_free ultra_app ≡ true
-unfolding clap_on_literals
+unfolding clap_on_literals ultra_app
 free = refl
 
 pub returns-in-Ok : goal.returns-in-Ok

@@ -1,13 +1,13 @@
 -- how each end is one of those of a sweep
 use Rattle.std.proofs.Common.{◌≡◌, ◌∙◌, ap, inl, inr, length, refl, subst, sym}
 use Rattle.std.proofs.lemmas.Result.{err_from_is_err_and}
-use Rattle.ultra_msg.specs.Bytes.{TakesPrefix}
-use Rattle.ultra_sweep.specs.Report.{report_text}
+use Rattle.ultra_sweep.specs.Job.{texts_of}
 use Rattle.ultra_sweep_command.specs.declared.fault.SweepFault.{SweepFault}
 use Rattle.ultra_sweep_command.specs.declared.fault.SweepFault.TheVariants.{NoMemory, NoThread}
 use Rattle.ultra_inputs.specs.Shown.{stream}
 use Rattle.ultra_sweep_command.specs.Shown.{IsProgressShown}
-use Rattle.ultra_sweep_command.specs.Sweep.{report_of, failure_of, StopsJobs, refused, not_run, unwritten}
+use Rattle.ultra_sweep_command.specs.Output.{job_output}
+use Rattle.ultra_sweep_command.specs.Sweep.{failure_of, StopsJobs, refused, not_run, unwritten}
 use Rattle.ultra_sweep_command.proofs.sweep_jobs.Goals as goal
 
 stops_jobs : (fault : SweepFault) → StopsJobs (failure_of fault)
@@ -23,12 +23,13 @@ pub returns-in-Ok-clause-err : goal.returns-in-Ok-clause-err
 returns-in-Ok-clause-err g c =
     let jobs = c.in_ok-jobs.jobs.items in
     let same : c.as_slice.result.now ≡ jobs = c.as_slice.ensures.value in
-    let text : report_text c.in-Ok.gathered ≡ report_of jobs = ap report_text c.in-Ok.ensures.ok ∙ ap report_of same in
+    let given : c.in-Ok.gathered ≡ texts_of (job_output c.args.plan.now.output) jobs = c.in-Ok.ensures.ok ∙ ap (texts_of (job_output c.args.plan.now.output)) same in
+    let wrote = c.write_output.ensures jobs given in
     let before = stream (g.E.Sink.taken c.args.err.now) (g.E.Sink.failures c.args.err.now) in
     let after = stream (g.E.Sink.taken c.run_jobs.new.err) (g.E.Sink.failures c.run_jobs.new.err) in
     unwritten jobs c.in_ok-jobs.ensures.ok refl
-    (subst (λ t. TakesPrefix t (g.O.Sink.taken c.args.out.now) (g.O.Sink.taken c.report.new.sink)) text (rw c.in-Err-report.is at c.report.ensures.err))
-    (subst (λ js. IsProgressShown c.args.plan.progress (length js) (length js) before after) same c.in-Ok.ensures.all_shown)
+    (rw c.in-Err-write_output.is at wrote.err)
+    (subst (λ js. IsProgressShown c.args.plan.now.progress (length js) (length js) before after) same c.in-Ok.ensures.all_shown)
 
 pub returns-clause-err : goal.returns-clause-err
 returns-clause-err g c =
@@ -38,4 +39,4 @@ returns-clause-err g c =
     let before = stream (g.E.Sink.taken c.args.err.now) (g.E.Sink.failures c.args.err.now) in
     let after = stream (g.E.Sink.taken c.run_jobs.new.err) (g.E.Sink.failures c.run_jobs.new.err) in
     not_run jobs some.0 c.in_ok-jobs.ensures.ok (subst StopsJobs (sym c.failure.ensures) (stops_jobs c.in-Err.fault)) refl
-    (subst (λ js. IsProgressShown c.args.plan.progress (length js) some.0 before after) same some.1)
+    (subst (λ js. IsProgressShown c.args.plan.now.progress (length js) some.0 before after) same some.1)

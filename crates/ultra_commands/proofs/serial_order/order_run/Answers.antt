@@ -24,16 +24,18 @@ returns-in_err-run-clause-stopped g c =
 
 pub returns-clause-ok : goal.returns-clause-ok
 returns-clause-ok g c =
-    let inputs = c.args.inputs.now in
-    let lines : order_text (whole c.in_ok-run.run') ≡ order_of inputs.config inputs.program =
-    ap (λ (r : Ordered). order_text (whole r)) c.in_ok-run.ensures ∙ (ap (λ n. order_text (serial_list inputs.config inputs.program n)) c.cycles.ensures.value ∙ sym (ap order_text (whole_list inputs.config inputs.program))) in
+    let config = c.args.config.now in
+    let program = c.args.program.now in
+    let lines : order_text (whole c.in_ok-run.run') ≡ order_of config program =
+    ap (λ (r : Ordered). order_text (whole r)) c.in_ok-run.ensures ∙ (ap (λ n. order_text (serial_list config program n)) c.cycles.ensures.value ∙ sym (ap order_text (whole_list config program))) in
     rw lines at c.write_order.ensures.ok
 
 pub returns-clause-err : goal.returns-clause-err
 returns-clause-err g c =
-    let inputs = c.args.inputs.now in
-    let lines : order_text (whole c.in_ok-run.run') ≡ order_of inputs.config inputs.program =
-    ap (λ (r : Ordered). order_text (whole r)) c.in_ok-run.ensures ∙ (ap (λ n. order_text (serial_list inputs.config inputs.program n)) c.cycles.ensures.value ∙ sym (ap order_text (whole_list inputs.config inputs.program))) in
+    let config = c.args.config.now in
+    let program = c.args.program.now in
+    let lines : order_text (whole c.in_ok-run.run') ≡ order_of config program =
+    ap (λ (r : Ordered). order_text (whole r)) c.in_ok-run.ensures ∙ (ap (λ n. order_text (serial_list config program n)) c.cycles.ensures.value ∙ sym (ap order_text (whole_list config program))) in
     rw lines at c.write_order.ensures.err
 
 pub returns-clause-stopped : goal.returns-clause-stopped

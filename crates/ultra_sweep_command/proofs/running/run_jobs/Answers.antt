@@ -12,10 +12,10 @@ pub returns-in_err-seat-clause-some_shown : goal.returns-in_err-seat-clause-some
 returns-in_err-seat-clause-some_shown g c =
     let m = c.run_together-seat_results.result.1 in
     let done = c.run_together-seat_results.ensures in
-    on-err c.from_residual.result _ (m.last, is-shown c.args.plan.progress (length c.args.jobs.now) m _ _ done.count done.shown done.quiet)
+    on-err c.from_residual.result _ (m.last, is-shown c.args.plan.now.progress (length c.args.jobs.now) m _ _ done.count done.shown done.quiet)
 
 pub returns-in_err-gathered-clause-some_shown : goal.returns-in_err-gathered-clause-some_shown
 returns-in_err-gathered-clause-some_shown g c =
     let m = c.run_together-seat_results.result.1 in
     let done = c.run_together-seat_results.ensures in
-    on-err c.from_residual-in_err-gathered.result _ (m.last, is-shown c.args.plan.progress (length c.args.jobs.now) m _ _ done.count done.shown done.quiet)
+    on-err c.from_residual-in_err-gathered.result _ (m.last, is-shown c.args.plan.now.progress (length c.args.jobs.now) m _ _ done.count done.shown done.quiet)

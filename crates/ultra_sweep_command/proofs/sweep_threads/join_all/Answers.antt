@@ -3,6 +3,7 @@ use Rattle.std.specs.Prelude.{All, IfOk, Result}
 use Rattle.std.proofs.lemmas.Result.{IfOk-weaker}
 use Rattle.std.proofs.lemmas.List.Elements.{All-head, All-rest}
 use Rattle.ultra_board.specs.Seat.{Opened}
+use Rattle.ultra_args.specs.declared.sweep_output.SweepOutput.{SweepOutput}
 use Rattle.ultra_sweep.specs.declared.job.Job.{Job}
 use Rattle.ultra_sweep_command.specs.declared.seat_results.SeatResults.{SeatResults}
 use Rattle.ultra_sweep_command.specs.SeatResults.{AreSeatResults, AreWholeResults}
@@ -10,9 +11,9 @@ use Rattle.ultra_sweep_command.proofs.sweep_threads.join_all.Goals as goal
 use Rattle.ultra_sweep_command.proofs.sweep_threads.join_all.Goals.{in-Ok, in-Err}
 
 -- the results of the seats so far, with one more
-next : {E : Type 0} (board : Opened) (jobs : List Job) (k m : ℕ) (own other : SeatResults) (sum : Result SeatResults E) → IfOk sum (λ all. (js : List Job) (n : ℕ) → AreWholeResults board js n own → AreSeatResults board js 1 other → AreWholeResults board js (n + 1) all) → AreWholeResults board jobs k own → AreSeatResults board jobs 1 other → k + 1 ≡ m → IfOk sum (AreWholeResults board jobs m)
-next board jobs k m own other sum joined before part more =
-    IfOk-weaker sum _ (AreWholeResults board jobs m) (λ all h. subst (λ n. AreWholeResults board jobs n all) more (h jobs k before part)) joined
+next : {E : Type 0} (output : SweepOutput) (board : Opened) (jobs : List Job) (k m : ℕ) (own other : SeatResults) (sum : Result SeatResults E) → IfOk sum (λ all. (o : SweepOutput) (js : List Job) (n : ℕ) → AreWholeResults o board js n own → AreSeatResults o board js 1 other → AreWholeResults o board js (n + 1) all) → AreWholeResults output board jobs k own → AreSeatResults output board jobs 1 other → k + 1 ≡ m → IfOk sum (AreWholeResults output board jobs m)
+next output board jobs k m own other sum joined before part more =
+    IfOk-weaker sum _ (AreWholeResults output board jobs m) (λ all h. subst (λ n. AreWholeResults output board jobs n all) more (h output jobs k before part)) joined
 
 pub loop-thread-preserved-then-if-drop : goal.loop-thread-preserved-then-if-drop
 loop-thread-preserved-then-if-drop g c =
@@ -21,7 +22,7 @@ loop-thread-preserved-then-if-drop g c =
     let thread = c.in-Some.thread in
     let steps = c.in-Some.ensures.steps.0 in
     let mine : thread.promise ≡ c.args.task = All-head (λ t. t.promise ≡ c.args.task) thread c.next.new.self.rest.items (subst (All (λ t. t.promise ≡ c.args.task)) steps so_far.rest) in
-    let part = subst (λ task. AreSeatResults task.board.now task.jobs.now 1 c.join-seat_results.result) mine c.join-seat_results.ensures in
+    let part = subst (λ task. AreSeatResults task.output.now task.board.now task.jobs.now 1 c.join-seat_results.result) mine c.join-seat_results.ensures in
     let longer = length-append seen (thread ∷ []) in
     let shorter = ap length steps in
     let count = so_far.count in
@@ -31,7 +32,7 @@ loop-thread-preserved-then-if-drop g c =
       count = omega arith;
       all =
           elim c.match-all.branch [
-            | in-Ok w ↦ rw w.all-is (next c.args.task.board.now c.args.task.jobs.now (length seen + 1) (length (seen ++ thread ∷ []) + 1) w.in-Ok.all c.join-seat_results.result w.join_seat_results.result w.join_seat_results.ensures (rw w.in-Ok.is at so_far.all) part one_more)
+            | in-Ok w ↦ rw w.all-is (next c.args.task.output.now c.args.task.board.now c.args.task.jobs.now (length seen + 1) (length (seen ++ thread ∷ []) + 1) w.in-Ok.all c.join-seat_results.result w.join_seat_results.result w.join_seat_results.ensures (rw w.in-Ok.is at so_far.all) part one_more)
             | in-Err w ↦ rw w.all-is tt
           ];
     }
@@ -43,7 +44,7 @@ loop-thread-preserved g c =
     let thread = c.in-Some.thread in
     let steps = c.in-Some.ensures.steps.0 in
     let mine : thread.promise ≡ c.args.task = All-head (λ t. t.promise ≡ c.args.task) thread c.next.new.self.rest.items (subst (All (λ t. t.promise ≡ c.args.task)) steps so_far.rest) in
-    let part = subst (λ task. AreSeatResults task.board.now task.jobs.now 1 c.join-seat_results.result) mine c.join-seat_results.ensures in
+    let part = subst (λ task. AreSeatResults task.output.now task.board.now task.jobs.now 1 c.join-seat_results.result) mine c.join-seat_results.ensures in
     let longer = length-append seen (thread ∷ []) in
     let shorter = ap length steps in
     let count = so_far.count in
@@ -53,7 +54,7 @@ loop-thread-preserved g c =
       count = omega arith;
       all =
           elim c.match-all.branch [
-            | in-Ok w ↦ rw w.all-is (next c.args.task.board.now c.args.task.jobs.now (length seen + 1) (length (seen ++ thread ∷ []) + 1) w.in-Ok.all c.join-seat_results.result w.join_seat_results.result w.join_seat_results.ensures (rw w.in-Ok.is at so_far.all) part one_more)
+            | in-Ok w ↦ rw w.all-is (next c.args.task.output.now c.args.task.board.now c.args.task.jobs.now (length seen + 1) (length (seen ++ thread ∷ []) + 1) w.in-Ok.all c.join-seat_results.result w.join_seat_results.result w.join_seat_results.ensures (rw w.in-Ok.is at so_far.all) part one_more)
             | in-Err w ↦ rw w.all-is tt
           ];
     }
