@@ -1,4 +1,4 @@
-"""Crates proved from nothing, by the prover itself, over the statements of the libraries below them.
+"""Crates proved from scratch, by the prover itself, over the statements of the libraries below them.
 
 The command rt keeps what it has proved, function by function, and reads each library below a crate with its proofs. A
 first run has nothing kept. So here a library holds its statements alone, and several crates are proved in one tree
@@ -16,7 +16,7 @@ KIT = Path(shutil.which("rt") or "bin/rt").resolve().parent.parent
 
 
 def library(name):
-    """Where the library of a crate stands."""
+    """The path of the library of a crate."""
     return ROOT / "crates" / name / "out" / "statements" / f"{name}.rlib"
 
 
@@ -37,7 +37,7 @@ def stamp_file(name):
 
 
 def product(name):
-    """Where the library or program that a crate is built as stands."""
+    """The path of the library or program that a crate is built as."""
     return ROOT / "crates" / name / "out" / name if is_program(name) else library(name)
 
 
@@ -48,7 +48,7 @@ def is_built(listed, name):
 
 
 def words_for(listed, name, jobs, library):
-    """The words by which the prover is called for a crate, given where the library of each crate below stands."""
+    """The arguments with which the prover is called for a crate, given the path of the library of each crate below."""
     words = ["--crate-name", name, "src/main.rt" if is_program(name) else "src/lib.rt"]
     for it in ["std", *libraries_of_kit(name)]:
         words += ["--extern", f"{it}={KIT}/rlibs/{it}.rlib"]

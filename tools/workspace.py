@@ -1,7 +1,7 @@
 """The crates of crates.txt, and rooms in which one of them is proved beside others.
 
 Two runs of rt in one tree wait for each other, since each locks the folders of all libraries below its crate. So each
-works in a room of its own: a copy of a crate's sources and of the libraries that it stands on, as built so far.
+works in its own room: a copy of a crate's sources and of the libraries that it depends on, as built so far.
 """
 
 import os
@@ -39,7 +39,7 @@ def libraries_of_kit(name):
 
 
 def with_all_below(listed, names):
-    """The crates named and all that they stand on, lowest first."""
+    """The crates named and all that they depend on, lowest first."""
     order = []
 
     def visit(name):
@@ -54,7 +54,7 @@ def with_all_below(listed, names):
 
 
 def below(listed, name):
-    """All crates that this one stands on, lowest first."""
+    """All crates that this one depends on, lowest first."""
     return with_all_below(listed, [name])[:-1]
 
 
@@ -87,7 +87,7 @@ def lanes_asked(words):
 
 
 def furnish(room, listed, name):
-    """Makes a room for the crate: its sources, and the libraries that it stands on, as far as they are built."""
+    """Makes a room for the crate: its sources, and the libraries that it depends on, as far as they are built."""
     shutil.rmtree(room, ignore_errors=True)
     names = [*below(listed, name), name]
     for it in names:

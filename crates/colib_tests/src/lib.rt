@@ -12,4 +12,6 @@ mod runs;
 #[cfg(test)]
 mod texts;
 #[cfg(test)]
+mod tickets;
+#[cfg(test)]
 mod wrong_programs;

@@ -1,7 +1,9 @@
-//! Tests of `ultra_measure`, over its public call.
+//! Tests of `ultra_measure` and of `ultra_requests`, over their public calls.
 #![tactic(auto)]
 
 #[cfg(test)]
 mod measures;
 #[cfg(test)]
 mod memory_sink;
+#[cfg(test)]
+mod requests;

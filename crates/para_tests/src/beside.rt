@@ -116,7 +116,7 @@ fn run(
 }
 
 /// Whether each number of a schedule is a processing element's.
-fn is_schedule(schedule: &[Pe], size: u32) -> bool
+pub(crate) fn is_schedule(schedule: &[Pe], size: u32) -> bool
     ensures { IsTrue result ↔ All (λ p. p < size) schedule.now }
 {
     schedule.iter().all(|&pe| pe < size)

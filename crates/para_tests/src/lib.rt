@@ -1,4 +1,4 @@
-//! Tests of the paracomputer, over public calls alone. They stand in a crate of their own, so that the library isn't proved a second time with its tests.
+//! Tests of the paracomputer, over public calls alone. They are in a separate crate, so that the library isn't proved a second time with its tests.
 #![tactic(auto)]
 
 #[cfg(test)]
@@ -6,6 +6,10 @@ mod beside;
 #[cfg(test)]
 mod making;
 #[cfg(test)]
+mod memory_sink;
+#[cfg(test)]
 mod random;
 #[cfg(test)]
 mod rows;
+#[cfg(test)]
+mod texts;

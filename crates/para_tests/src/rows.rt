@@ -8,7 +8,7 @@ use std::test::Fail;
 use ultra_isa::Instr;
 use ultra_model::Config;
 use ultra_msg::{Cell, Pe, Word};
-use ultra_para::{Para, is_careful};
+use ultra_para::{Para, first_unfenced, is_careful};
 
 /// Asserts what registers hold.
 fn check_registers(rt: &impl Abort, para: &Para, wanted: &[(Pe, u8, Option<Word>)]) {
@@ -41,10 +41,15 @@ fn run(
     Ok(())
 }
 
-/// Asserts whether a program is careful.
-fn judge(rt: &(impl Abort + AllocGlobal), list: &[Instr], careful: bool) -> Result<(), Fail> {
+/// Asserts which instruction of a program is the first without the fence that it should have. A program without one is careful.
+fn judge(
+    rt: &(impl Abort + AllocGlobal),
+    list: &[Instr],
+    unfenced: Option<usize>,
+) -> Result<(), Fail> {
     let program = program(list.to_vec(rt.alloc())?)?;
-    assert_eq!(rt; is_careful(&program), careful);
+    assert_eq!(rt; first_unfenced(&program), unfenced);
+    assert_eq!(rt; is_careful(&program), unfenced.is_none());
     Ok(())
 }
 
@@ -153,16 +158,17 @@ fn store() -> Instr {
 
 #[test]
 fn additions_are_careful_or_not(rt: HostRuntime) -> Result<(), Fail> {
-    judge(&rt, &[set(), add(), Instr::Halt], false)?;
-    judge(&rt, &[set(), add(), Instr::Fence, Instr::Halt], true)
+    judge(&rt, &[set(), add(), Instr::Halt], Some(1))?;
+    judge(&rt, &[set(), add(), Instr::Fence, Instr::Halt], None)
 }
 
 #[test]
 fn careful_or_not(rt: HostRuntime) -> Result<(), Fail> {
-    judge(&rt, &[swap(), Instr::Halt], false)?;
-    judge(&rt, &[swap(), Instr::Fence, Instr::Halt], true)?;
-    judge(&rt, &[swap(), Instr::Halt, Instr::Fence], false)?;
-    judge(&rt, &[store()], false)?;
-    judge(&rt, &[store(), store(), Instr::Fence], false)?;
-    judge(&rt, &[], true)
+    judge(&rt, &[swap(), Instr::Halt], Some(0))?;
+    judge(&rt, &[swap(), Instr::Fence, Instr::Halt], None)?;
+    judge(&rt, &[swap(), Instr::Fence, store(), Instr::Halt], Some(2))?;
+    judge(&rt, &[swap(), Instr::Halt, Instr::Fence], Some(0))?;
+    judge(&rt, &[store()], Some(0))?;
+    judge(&rt, &[store(), store(), Instr::Fence], Some(0))?;
+    judge(&rt, &[], None)
 }

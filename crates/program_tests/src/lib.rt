@@ -3,6 +3,8 @@
 #![tactic(auto)]
 
 #[cfg(test)]
+mod answers;
+#[cfg(test)]
 mod calls;
 #[cfg(test)]
 mod examples;
@@ -15,11 +17,15 @@ mod host;
 #[cfg(test)]
 mod lib_programs;
 #[cfg(test)]
+mod measures;
+#[cfg(test)]
 mod memory_files;
 #[cfg(test)]
 mod memory_sink;
 #[cfg(test)]
 mod orders;
+#[cfg(test)]
+mod parts;
 #[cfg(test)]
 mod programs;
 #[cfg(test)]
@@ -30,3 +36,5 @@ mod sweeps;
 mod traces;
 #[cfg(test)]
 mod two_stage_traces;
+#[cfg(test)]
+mod verdicts;

@@ -1,5 +1,7 @@
 //! Gates that watch who runs a job.
 
+ghost use Rattle.ultra_sweep.specs.Job.{trace_of};
+
 use std::alloc::Global;
 use std::sync::Wait;
 use std::sync::atomic::{AtomicU64, Ordering};
@@ -38,6 +40,8 @@ impl Meeting {
 }
 
 impl JobGate for Meeting {
+    ghost text = { λ gate number job. trace_of job };
+
     fn run<R: Wait>(
         &self,
         rt: &R,
@@ -77,6 +81,8 @@ impl Counter {
 }
 
 impl JobGate for Counter {
+    ghost text = { λ gate number job. trace_of job };
+
     fn run<R: Wait>(
         &self,
         rt: &R,

@@ -38,12 +38,12 @@ fn another_number_of_jobs(rt: HostRuntime) -> Result<(), Fail> {
     check_refused(&rt, 2, double, GatherFault::Double(0))
 }
 
-/// A result with an empty trace, or one of a job to which memory was refused.
-fn result(alloc: Global, number: u64, has_trace: bool) -> JobResult {
+/// A result with an empty text, or one of a job to which memory was refused.
+fn result(alloc: Global, number: u64, has_text: bool) -> JobResult {
     JobResult {
         number,
-        outcome: match has_trace {
-            true => JobOutcome::Trace(Vec::new(alloc)),
+        outcome: match has_text {
+            true => JobOutcome::Text(Vec::new(alloc)),
             false => JobOutcome::NoMemory,
         },
     }
@@ -64,8 +64,8 @@ fn kinds_in_their_order(rt: HostRuntime) -> Result<(), Fail> {
     ];
     for (row, wanted) in rows {
         let mut results = Vec::new(rt.alloc());
-        for (number, has_trace) in row {
-            results.push(result(rt.alloc(), *number, *has_trace))?;
+        for (number, has_text) in row {
+            results.push(result(rt.alloc(), *number, *has_text))?;
         }
         check_refused(&rt, 3, results, wanted)?;
     }

@@ -13,6 +13,8 @@ mod gathers;
 #[cfg(test)]
 mod jobs;
 #[cfg(test)]
+mod measures;
+#[cfg(test)]
 mod memory_sink;
 #[cfg(test)]
 mod sweeps;

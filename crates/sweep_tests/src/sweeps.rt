@@ -67,7 +67,7 @@ pub(crate) fn sweep_alone<R: Wait + AllocGlobal>(
 }
 
 /// The results of all jobs, by two threads, `at_once` jobs at once.
-fn sweep_by_two<R: Threads + Wait + Sync + Abort + AllocGlobal, G: JobGate + Sync>(
+pub(crate) fn sweep_by_two<R: Threads + Wait + Sync + Abort + AllocGlobal, G: JobGate + Sync>(
     rt: &R,
     jobs: &[Job],
     at_once: u64,

@@ -1,0 +1,117 @@
+//! Sweeps that give measures. The expected rows are those of another simulator.
+
+use crate::jobs::two_jobs;
+use crate::memory_sink::MemorySink;
+use crate::sweeps::sweep_by_two;
+use std::process::Abort;
+use std::sync::Wait;
+use std::test::Fail;
+use std::thread::Threads;
+use ultra_args::{Invocation, Parsed, SweepOutput, parse};
+use ultra_measure::measure_names;
+use ultra_sweep::{Job, gather, write_job_table};
+use ultra_sweep_command::OutputGate;
+
+/// The first line of a table.
+const NAMES: &str = "\
+job,stages,pes,request_places,reply_places,wait_places,open,cells,from,to,end,issued,answered,\
+acts,combined,faults,acts_most,latency_least,latency_greatest,latency_mean,running_sum,\
+stalled_sum,open_sum,pni_sum,pni_most,inp_sum,out_sum,combined_0,request_queue_sum_0,\
+request_queue_most_0,reply_queue_sum_0,reply_queue_most_0,records_sum_0,records_most_0,\
+full_waits_0,combined_1,request_queue_sum_1,request_queue_most_1,reply_queue_sum_1,\
+reply_queue_most_1,records_sum_1,records_most_1,full_waits_1,combined_2,request_queue_sum_2,\
+request_queue_most_2,reply_queue_sum_2,reply_queue_most_2,records_sum_2,records_most_2,\
+full_waits_2,combined_3,request_queue_sum_3,request_queue_most_3,reply_queue_sum_3,\
+reply_queue_most_3,records_sum_3,records_most_3,full_waits_3,combined_4,request_queue_sum_4,\
+request_queue_most_4,reply_queue_sum_4,reply_queue_most_4,records_sum_4,records_most_4,\
+full_waits_4,combined_5,request_queue_sum_5,request_queue_most_5,reply_queue_sum_5,\
+reply_queue_most_5,records_sum_5,records_most_5,full_waits_5\n";
+
+/// The rows of a job that halts at once, and of one in which two processing elements add 1 each to
+/// cell 0: a window for each.
+const WHOLE_RUNS: &str = "\
+0,1,2,4,8,4,2,16,0,1,quiet,0,0,0,0,0,0,,,,0,0,0,0,0,0,0,0,0,0,0,0,0,0,0,,,,,,,,,,,,,,,,,,,,,,,,,,,,,,,,,,,,,,,,\n\
+1,1,2,4,8,4,2,16,0,8,quiet,2,2,1,1,0,1,5,5,5.000,6,0,10,2,1,1,1,1,1,1,2,1,3,1,0,,,,,,,,,,,,,,,,,,,,,,,,,,,,,,,,,,,,,,,,\n\
+";
+
+/// The same in windows of three cycles.
+const THREE_CYCLES_EACH: &str = "\
+0,1,2,4,8,4,2,16,0,1,quiet,0,0,0,0,0,0,,,,0,0,0,0,0,0,0,0,0,0,0,0,0,0,0,,,,,,,,,,,,,,,,,,,,,,,,,,,,,,,,,,,,,,,,\n\
+1,1,2,4,8,4,2,16,0,3,,2,0,0,0,0,0,,,,6,0,2,2,1,0,0,0,0,0,0,0,0,0,0,,,,,,,,,,,,,,,,,,,,,,,,,,,,,,,,,,,,,,,,\n\
+1,1,2,4,8,4,2,16,3,6,,0,0,1,1,0,1,,,,0,0,6,0,0,1,1,1,1,1,0,0,3,1,0,,,,,,,,,,,,,,,,,,,,,,,,,,,,,,,,,,,,,,,,\n\
+1,1,2,4,8,4,2,16,6,8,quiet,0,2,0,0,0,0,5,5,5.000,0,0,2,0,0,0,0,0,0,0,2,1,0,0,0,,,,,,,,,,,,,,,,,,,,,,,,,,,,,,,,,,,,,,,,\n\
+";
+
+/// Asserts that two threads, which run `at_once` jobs at once, make this table of the jobs.
+fn check_table<R: Threads + Wait + Sync + Abort + AllocGlobal>(
+    rt: &R,
+    jobs: &[Job],
+    output: &SweepOutput,
+    at_once: u64,
+    rows: &str,
+) -> Result<(), Fail> {
+    let results = sweep_by_two(rt, jobs, at_once, &OutputGate(output))?;
+    let gathered = gather(rt.alloc(), jobs.len() as u64, results)?;
+    let mut out = MemorySink::failing_after(rt, usize::MAX);
+    write_job_table(&gathered, measure_names(), &mut out)?;
+    assert_eq!(rt;
+        out.text()?,
+        format!(in rt.alloc(); "{NAMES}{rows}")?.as_str()
+    );
+    Ok(())
+}
+
+#[test]
+fn whole_runs(rt: HostRuntime) -> Result<(), Fail> {
+    let jobs = two_jobs(rt.alloc())?;
+    let output = SweepOutput::Measures { every: None };
+    for at_once in [1, 2, 64] {
+        check_table(&rt, jobs.as_slice(), &output, at_once, WHOLE_RUNS)?;
+    }
+    Ok(())
+}
+
+/// The words of a sweep whose windows have three cycles.
+const EVERY_THREE: [&str; 10] = [
+    "ultra",
+    "sweep",
+    "jobs",
+    "--workers",
+    "2",
+    "--at-once",
+    "1",
+    "--measure",
+    "--every",
+    "3",
+];
+
+#[test]
+fn windows_of_three_cycles(rt: HostRuntime) -> Result<(), Fail> {
+    let jobs = two_jobs(rt.alloc())?;
+    match parse(rt.alloc(), &EVERY_THREE) {
+        Parsed::Invocation(Invocation::Sweep { output, .. }) => {
+            check_table(&rt, jobs.as_slice(), &output, 1, THREE_CYCLES_EACH)
+        }
+        Parsed::NoMemory => Err("no memory".into()),
+        _ => panic!(rt; "not a sweep"),
+    }
+}
+
+/// A table into a sink that fails at each of its writes in turn.
+#[test]
+fn table_into_a_failing_sink(rt: HostRuntime) -> Result<(), Fail> {
+    let jobs = two_jobs(rt.alloc())?;
+    let output = SweepOutput::Measures { every: None };
+    let results = sweep_by_two(&rt, jobs.as_slice(), 1, &OutputGate(&output))?;
+    let gathered = gather(rt.alloc(), 2, results)?;
+    let wanted = format!(in rt.alloc(); "{NAMES}{WHOLE_RUNS}")?;
+    for count in 0..20 {
+        let mut out = MemorySink::failing_after(&rt, count);
+        assert!(rt;
+            write_job_table(&gathered, measure_names(), &mut out).is_err(),
+            "after {count}"
+        );
+        assert!(rt; wanted.as_str().starts_with(out.text()?), "after {count}");
+    }
+    Ok(())
+}

@@ -1,0 +1,108 @@
+#!/usr/bin/env python3
+"""Finds long sentences, and phrases that this project doesn't use, in its documents.
+
+usage: tests/wording.py [FILE..]
+If no file is named, these are README.md, CONTRIBUTING.md, docs/*.md, and the README.md of examples, bench and viewer.
+Blocks of code aren't looked at, and a piece of code in a sentence counts as one word. Each cell of a table is a text by
+itself. The last line is 'N passed, M failed', where N and M count files.
+"""
+
+import os
+import re
+import sys
+from pathlib import Path
+
+ROOT = Path(__file__).resolve().parent.parent
+FOLDERS = ("examples", "bench", "viewer")
+MOST_WORDS = 30
+# each phrase, and what a document says in its place
+PHRASES = {
+    r"(?:stands?|stood)(?! for\b)|standing": "is, is in, depends on, holds",
+    r"of (?:its|their) own": "its own X, another X",
+    r"from nothing": "from scratch",
+    r"(?:go|goes|going|went) by": "iterates over, follows, uses",
+    r"passes over|past what": "skips",
+    r"isn't said": "is unspecified",
+    r"in every end": "on every return path",
+    r"was gone": "died",
+    r"refused bytes": "writing failed",
+    r"words aren't right|words of (?:a|the) command line": "arguments",
+    r"compiled apart": "compiled as a specialised copy",
+    r"done with before": "finishes before",
+    r"as may be": "the maximum number",
+    r"hands? (?:its|the) text on": "flushes",
+    r"contracts bite": "the contracts aren't vacuous",
+    r"known by its": "identified by",
+    r"has its (?:home|place) in": "is in",
+    r"how often \w+ (?:has )?failed": "the number of failures",
+    r"what comes back": "the result",
+    r"one after (?:the other|another)": "in order",
+    r"so many|such an?": "this, these, n",
+    r"told|tells?": "says, reports",
+}
+PHRASE = re.compile(r"\b(?:" + "|".join(PHRASES) + r")\b", re.IGNORECASE)
+
+
+def texts(document):
+    """The paragraphs, items of lists, headings and cells of a document, each with the number of its line."""
+    found, fenced, goes_on = [], False, False
+    for number, line in enumerate(document.splitlines(), 1):
+        text = line.strip()
+        if text.startswith("```"):
+            fenced, goes_on = not fenced, False
+        elif fenced or not text or (line.startswith("    ") and not goes_on):
+            goes_on = False
+        elif text.startswith("|"):
+            found += [(number, cell) for cell in re.split(r"(?<!\\)\|", text)]
+            goes_on = False
+        elif goes_on and not re.match(r"(?:[-*]|\d+\.) |#", text):
+            found[-1] = (found[-1][0], f"{found[-1][1]} {text}")
+        else:
+            found.append((number, re.sub(r"^(?:[-*]|\d+\.|#+) ", "", text)))
+            goes_on = not text.startswith("#")
+    return found
+
+
+def plain(text):
+    """A text without marks, in which each piece of code is one word."""
+    text = re.sub(r"!?\[([^\]]*)\]\([^)]*\)", r"\1", re.sub(r"`[^`]*`", "code", text))
+    return text.replace("*", "")
+
+
+def faults(document):
+    """What is wrong with the wording of a document: lines 'NUMBER: FAULT'."""
+    found = []
+    for number, text in texts(document):
+        text = plain(text)
+        found += [f"{number}: '{it[0]}'" for it in PHRASE.finditer(text)]
+        for sentence in re.split(r"(?<=[.?!])[)\"']?\s+", text):
+            words = [it for it in sentence.split() if re.search(r"\w", it)]
+            if len(words) > MOST_WORDS:
+                found.append(f"{number}: a sentence of {len(words)} words: {' '.join(words[:8])} ..")
+    return found
+
+
+def documents():
+    """The files that are looked at if none is named."""
+    named = [ROOT / "README.md", ROOT / "CONTRIBUTING.md"]
+    return [*named, *sorted((ROOT / "docs").glob("*.md")), *(ROOT / it / "README.md" for it in FOLDERS)]
+
+
+def count_faulty(names):
+    """How many documents are looked at, and how many have a fault. Each fault is printed."""
+    files, faulty = [Path(it) for it in names] or documents(), 0
+    for file in files:
+        found = faults(file.read_text())
+        faulty += bool(found)
+        print("".join(f"{os.path.relpath(file, ROOT)}:{it}\n" for it in found), end="")
+    return len(files), faulty
+
+
+def main(names):
+    checked, failed = count_faulty(names)
+    print(f"{checked - failed} passed, {failed} failed")
+    return 1 if failed else 0
+
+
+if __name__ == "__main__":
+    sys.exit(main(sys.argv[1:]))
