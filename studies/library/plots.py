@@ -1,0 +1,110 @@
+"""Plots of a table by gnuplot, as SVG and PNG."""
+
+import re
+import subprocess
+from dataclasses import dataclass
+
+from library.expressions import number
+from library.study_file import StudyFault
+
+COLORS = ("#1b6ca8", "#c8553d", "#3a7d44", "#7b4b94", "#d4a017", "#4f4f4f", "#008b8b", "#a0522d")
+POINTS = (4, 6, 8, 10, 12, 5, 7, 9)
+SIZES = {"svg": "svg size 900,560 font 'DejaVu Sans,14' background 'white'", "png": "pngcairo size 1100,680 font 'DejaVu Sans,13'"}
+
+
+@dataclass(frozen=True)
+class Drawn:
+    """A line of a plot: its label, the values of its columns `by`, and its points from left to right."""
+
+    label: str
+    group: tuple
+    is_dashed: bool
+    points: list
+
+
+def label_of(template, row):
+    return re.sub(r"\{(\w+)\}", lambda it: row.get(it[1], it[0]), template)
+
+
+def lines_of(plot, number_of_plot, rows):
+    """The lines of a plot."""
+    found = []
+    for line in plot.lines:
+        key = f"plot[{number_of_plot}]"
+        for it in (plot.x, line.y, *line.by, *sorted(line.where.names if line.where else ())):
+            if it not in rows[0]:
+                raise StudyFault(key, f"there is no column {it}")
+        groups = {}
+        for row in rows:
+            if line.where is None or line.where.value({it: number(row[it]) for it in line.where.names}):
+                groups.setdefault(tuple(row[it] for it in line.by), []).append(row)
+        for group, chosen in groups.items():
+            points = sorted((number(it[plot.x]), number(it[line.y])) for it in chosen if it[plot.x] and it[line.y])
+            if len({x for x, _ in points}) < len(points):
+                raise StudyFault(f"{key}.by", f"a line has two points with the same {plot.x}")
+            if points:
+                found.append(Drawn(label_of(line.label, chosen[0]), group, line.is_dashed, points))
+    if not found:
+        raise StudyFault(f"plot[{number_of_plot}]", "has no point")
+    return found
+
+
+def quoted(text):
+    return "'" + text.replace("'", "''") + "'"
+
+
+def looks(lines):
+    """How each line looks. A dashed line has the color of the line with the same values of `by`, else it is black."""
+    solid = [it for it in lines if not it.is_dashed]
+    groups = [it.group for it in solid]
+    for line in lines:
+        if line.is_dashed:
+            color = COLORS[groups.index(line.group) % len(COLORS)] if line.group in groups else "#000000"
+            yield f"with lines lc rgb '{color}' lw 2 dt 2"
+        else:
+            place = solid.index(line)
+            yield f"with linespoints lc rgb '{COLORS[place % len(COLORS)]}' lw 2 pt {POINTS[place % len(POINTS)]} ps 0.9"
+
+
+def axes(plot, lines):
+    """The ranges and marks of the axes."""
+    values = sorted({x for line in lines for x, _ in line.points})
+    text = ["set logscale y 10" if "y" in plot.log else "set yrange [0:*]\nset offsets 0, 0, graph 0.04, 0"]
+    if "x" in plot.log:
+        text.append(f"set logscale x 2\nset xrange [{values[0] * 0.95}:{values[-1] * 1.05}]")
+        text.append("set xtics (" + ", ".join(f"'{it}' {it}" for it in values) + ")")
+    else:
+        text.append(f"set xrange [0:{values[-1] * 1.02}]")
+    return text
+
+
+def script(plot, lines, name):
+    """The gnuplot script that draws the lines into NAME.svg and NAME.png."""
+    text = []
+    for index, line in enumerate(lines):
+        text.append(f"$line{index} << END\n" + "".join(f"{x} {y}\n" for x, y in line.points) + "END")
+    text += [
+        f"set title {quoted(plot.title)} noenhanced", f"set xlabel {quoted(plot.x_label)} noenhanced",
+        f"set ylabel {quoted(plot.y_label)} noenhanced", "set grid lt 1 lw 1 lc rgb '#dddddd'", "set border 3",
+        "set tics nomirror", "set key below noenhanced Left reverse spacing 1.2 maxcols 2 width 2", *axes(plot, lines),
+    ]
+    parts = [f"$line{index} using 1:2 {look} title {quoted(line.label)}" for index, (line, look) in enumerate(zip(lines, looks(lines)))]
+    for ending, terminal in SIZES.items():
+        text.append(f"set terminal {terminal}\nset output {quoted(f'{name}.{ending}')}")
+        text.append("plot " + ", \\\n    ".join(parts))
+    return "\n".join(text) + "\n"
+
+
+def draw(study, rows, folder):
+    """Writes each plot into the folder. False where there is no gnuplot. Raises StudyFault."""
+    scripts = [(it.name, script(it, lines_of(it, index, rows), it.name)) for index, it in enumerate(study.plots)]
+    for name, text in scripts:
+        (folder / f"{name}.gp").write_text(text)
+        try:
+            ran = subprocess.run(["gnuplot", f"{name}.gp"], cwd=folder, capture_output=True, text=True)
+        except FileNotFoundError:
+            return False
+        if ran.returncode:
+            lines = [it for it in ran.stderr.splitlines() if it.strip()] or ["gnuplot failed"]
+            raise StudyFault(f"plot {name}", lines[-1].strip())
+    return True

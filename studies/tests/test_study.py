@@ -1,0 +1,440 @@
+"""studies/study and its parts: the grid, names, answers, joining, starting again, plots and each line of an error."""
+
+import contextlib
+import io
+import os
+import re
+import shutil
+import subprocess
+import sys
+import tempfile
+import unittest
+import unittest.mock
+from collections import namedtuple
+from pathlib import Path
+
+from support import STUDIES, script
+
+from library.expressions import Formula, FormulaFault, number
+from library.pieces import Piece, answer, answer_path, jobs_text, pieces_of
+from library.plots import COLORS, Drawn, lines_of, looks, script as gnuplot_script
+from library.study_file import StudyFault, study_of
+from library.table import joined
+
+study = script("study")
+Ran = namedtuple("Ran", "returncode stdout stderr")
+SMALL = """
+title = "Small"
+[vary]
+stages = [1, 2]
+wait_places = [0, 4]
+[programs]
+short = "short.s"
+long = "long.s"
+"""
+
+
+class InFolder(unittest.TestCase):
+    """Tests in a new folder, with a script in place of `ultra`."""
+
+    def setUp(self):
+        self.folder = Path(tempfile.mkdtemp())
+        self.addCleanup(shutil.rmtree, self.folder)
+        (self.folder / "short.s").write_text("halt\n")
+        (self.folder / "long.s").write_text("fence\nhalt\n")
+        self.calls, self.dies = self.folder / "calls", self.folder / "dies"
+
+    def study(self, text, *arguments, ultra=STUDIES / "tests" / "fake_ultra"):
+        (self.folder / "study.toml").write_text(text)
+        self.calls.write_text("")
+        names = {"ULTRA": str(ultra), "FAKE_CALLS": str(self.calls), "FAKE_DIES": str(self.dies)}
+        out, err = io.StringIO(), io.StringIO()
+        with (unittest.mock.patch.dict(os.environ, names), contextlib.chdir(self.folder),
+              contextlib.redirect_stdout(out), contextlib.redirect_stderr(err)):
+            try:
+                status = study.main(["study.toml", *arguments])
+            except SystemExit as end:
+                status = end.code
+        return Ran(status, out.getvalue(), err.getvalue())
+
+    def bare_path(self):
+        """A PATH that has nothing but Python."""
+        tools = self.folder / "bare"
+        tools.mkdir()
+        (tools / "python3").symlink_to(sys.executable)
+        return unittest.mock.patch.dict(os.environ, {"PATH": str(tools)})
+
+    def table(self):
+        return (self.folder / "out" / "results.csv").read_text().splitlines()
+
+    def sweeps(self):
+        return [it for it in self.calls.read_text().splitlines() if it.startswith("sweep")]
+
+
+class Grid(unittest.TestCase):
+    def points(self, text):
+        return study_of(text.encode()).points()
+
+    def test_it_is_the_product_in_the_order_of_the_file(self):
+        points = self.points(SMALL)
+        self.assertEqual(len(points), 8)
+        self.assertEqual(points[0], {"stages": 1, "wait_places": 0, "program": "short"})
+        self.assertEqual(points[1], {"stages": 1, "wait_places": 0, "program": "long"})
+        self.assertEqual(points[2], {"stages": 1, "wait_places": 4, "program": "short"})
+        self.assertEqual(points[7], {"stages": 2, "wait_places": 4, "program": "long"})
+
+    def test_a_list_of_programs_and_traffic(self):
+        points = self.points('title = "t"\nprograms = ["a.s", "b.s"]\n[fixed]\nstages = 1\n')
+        self.assertEqual(points, [{"program": "a.s"}, {"program": "b.s"}])
+        points = self.points('title = "t"\n[traffic]\nrate = [1, 2]\nhot = [0]\n[fixed]\nstages = 1\n')
+        self.assertEqual(points, [{"rate": 1, "hot": 0}, {"rate": 2, "hot": 0}])
+
+    def test_where_leaves_points_out(self):
+        points = self.points('where = "stages == 1 or\\n wait_places > 0 and program != \'long\'"' + SMALL)
+        self.assertEqual(len(points), 5)
+
+
+class Formulas(unittest.TestCase):
+    def test_values(self):
+        row = {"a": 6, "b": 4, "c": None, "d": "x"}
+        for text, value in (
+            ("a + b * 2 - 1", 13), ("-a / b", -1.5), ("a // b + a % b", 3), ("1 < b < a", True), ("b > a or d == 'x'", True),
+            ("not a == 6", False), ("a / (b - 4)", None), ("a + c", None), ("(a > 1) + (b > 9)", 1),
+        ):
+            self.assertEqual(Formula(text).value(row), value)
+
+    def test_refusals(self):
+        for text in ("a +", "f(a)", "a.b", "[1]", "a if b else c", "a ** b", "lambda: 1", "a := 1", "a) or (b"):
+            with self.assertRaises(FormulaFault):
+                Formula(text)
+
+    def test_numbers(self):
+        self.assertEqual([number(it) for it in ("12", "1.5", "", "quiet")], [12, 1.5, None, "quiet"])
+
+
+class Names(InFolder):
+    MACHINES = [("stages = 1\n", "halt\n"), ("stages = 2\n", "halt\n"), ("stages = 3\n", "halt\n")]
+
+    def names(self, machines, size=2, hot_cells=()):
+        return [it.name for it in pieces_of(self.folder, machines, size, list(hot_cells))]
+
+    def test_they_follow_from_the_content(self):
+        names = self.names(self.MACHINES)
+        self.assertEqual(len(names), 2)
+        self.assertEqual(names, self.names(self.MACHINES))
+        self.assertEqual(self.names([*self.MACHINES[:2], ("stages = 4\n", "halt\n")])[0], names[0])
+        for others in ([("stages = 1\nopen = 1\n", "halt\n")], [("stages = 1\n", "fence\n")]):
+            self.assertNotEqual(self.names(others + self.MACHINES[1:])[0], names[0])
+        self.assertNotEqual(self.names(self.MACHINES, hot_cells=[0])[0], names[0])
+
+    def test_files_of_jobs(self):
+        self.names(self.MACHINES * 100, size=256)
+        self.assertEqual(sorted(it.read_text().count("[[job]]") for it in (self.folder / "jobs").iterdir()), [44, 256])
+        self.assertEqual(len(list((self.folder / "settings").iterdir())), 3)
+        self.assertEqual(len(list((self.folder / "programs").iterdir())), 1)
+        self.assertEqual(jobs_text([("a", "b")]), '[[job]]\nconf = "a"\nprog = "b"\n')
+
+    def test_a_changed_file_is_written_again(self):
+        self.names(self.MACHINES)
+        for path in self.folder.glob("*/*"):
+            path.write_text("broken")
+        self.names(self.MACHINES)
+        self.assertEqual({it.read_text() for it in (self.folder / "programs").iterdir()}, {"halt\n"})
+
+
+class Running(InFolder):
+    HEADER = "stages,wait_places,program,pes,to,answered,latency_mean"
+
+    def test_the_table(self):
+        ran = self.study(SMALL, "--jobs", "3")
+        self.assertEqual(ran.returncode, 0, ran.stderr)
+        self.assertEqual(self.table()[0], self.HEADER)
+        self.assertEqual(self.table()[1:3], ["1,0,short,2,100,5,", "1,0,long,2,100,11,"])
+        self.assertEqual(self.table()[8], "2,4,long,4,100,11,")
+        self.assertEqual(len(self.sweeps()), 3)
+        self.assertIn("study: 8 of 8 points, 0 s left\n", ran.stderr)
+
+    def test_columns_and_latencies(self):
+        columns = '[columns]\nshare = "answered / to / pes"\nis_small = "pes < 3"\nnothing = "latency_mean + 1"\n'
+        ran = self.study("hot_cells = [0]\n" + SMALL + columns)
+        self.assertEqual(ran.returncode, 0, ran.stderr)
+        added = ",hot_answered,hot_latency_mean,other_answered,other_latency_mean,share,is_small,nothing"
+        self.assertEqual(self.table()[0], self.HEADER + added)
+        self.assertEqual(self.table()[1], "1,0,short,2,100,5,,1,5.000,2,8.500,0.02500,1,")
+
+    def test_started_again_it_runs_only_what_is_not_there(self):
+        self.study(SMALL, "--jobs", "2")
+        table = self.table()
+        ran = self.study(SMALL, "--jobs", "2")
+        self.assertEqual((ran.returncode, self.sweeps(), self.table()), (0, [], table))
+        self.assertIn("study: 8 of 8 points are there\n", ran.stderr)
+        next((self.folder / "out" / "answers").iterdir()).unlink()
+        self.study(SMALL, "--jobs", "2")
+        self.assertEqual((len(self.sweeps()), self.table()), (1, table))
+
+    def test_a_broken_or_half_written_answer_is_run_again(self):
+        self.study(SMALL, "--jobs", "2")
+        table = self.table()
+        for spoil in (lambda it: it[:len(it) // 2], lambda it: it[:-1], lambda it: it.replace("100", "101"), lambda it: "", lambda it: "\0"):
+            path = next((self.folder / "out" / "answers").iterdir())
+            path.write_text(spoil(path.read_text()))
+            self.study(SMALL, "--jobs", "2")
+            self.assertEqual((len(self.sweeps()), self.table()), (1, table))
+
+    def test_an_answer_with_too_few_jobs_is_none(self):
+        self.study(SMALL, "--jobs", "2")
+        name = next((self.folder / "out" / "answers").iterdir()).stem
+        self.assertEqual(len(answer(self.folder / "out", Piece(name, 2))), 2)
+        self.assertIsNone(answer(self.folder / "out", Piece(name, 3)))
+        self.assertEqual(answer_path(self.folder, name).name, f"{name}.csv")
+
+    def test_parts_of_dead_runs_are_removed(self):
+        self.study(SMALL)
+        part = self.folder / "out" / "answers" / "0123.csv.part"
+        part.write_text("job,")
+        self.study(SMALL)
+        self.assertFalse(part.exists())
+
+    def test_a_program_that_fails(self):
+        self.dies.write_text("")
+        ran = self.study(SMALL)
+        self.assertEqual(ran.returncode, 1)
+        self.assertRegex(ran.stderr, r"\nstudy: jobs/[0-9a-f]{16}\.toml: ultra: no memory\n$")
+        self.dies.unlink()
+        self.assertEqual(self.study(SMALL).returncode, 0)
+
+    def test_it_compares_with_the_table_beside_the_study(self):
+        self.study(SMALL)
+        shutil.copy(self.folder / "out" / "results.csv", self.folder)
+        self.assertIn("results.csv is the same as ", self.study(SMALL).stderr)
+        (self.folder / "results.csv").write_text("")
+        self.assertIn("results.csv differs from ", self.study(SMALL).stderr)
+
+    def test_programs_of_lib(self):
+        ran = self.study('title = "t"\n[programs]\nwait = "lib barrier 4"\n[fixed]\nstages = 1\n')
+        self.assertEqual((ran.returncode, self.table()[1]), (0, "wait,1,2,100,5,"))
+
+    def test_where_it_is_written(self):
+        self.study(SMALL, "--out", "elsewhere")
+        self.assertTrue((self.folder / "elsewhere" / "results.csv").is_file())
+
+
+class Engines(InFolder):
+    """Scripts in place of the engines: how they are called. tests/cluster runs the real ones."""
+
+    PARALLEL = """
+names = words[words.index(":::") + 1:]
+for name in names:
+    subprocess.run(["bash", "-c", words[words.index(":::") - 1].replace("{}", name)])
+"""
+    SBATCH = """
+last = next(it for it in words if it.startswith("--array=0-")).removeprefix("--array=0-")
+for task in range(int(last) + 1):
+    subprocess.run(["bash", words[-1]], env={**os.environ, "SLURM_ARRAY_TASK_ID": str(task)})
+"""
+
+    def by(self, engine, command, body, *arguments):
+        tools = self.folder / "tools"
+        tools.mkdir(exist_ok=True)
+        head = "#!/usr/bin/env python3\nimport os, subprocess, sys\nwords = sys.argv[1:]\n"
+        (tools / command).write_text(head + f"open({str(self.folder / 'words')!r}, 'w').write(' '.join(words))" + body)
+        (tools / command).chmod(0o755)
+        with unittest.mock.patch.dict(os.environ, {"PATH": f"{tools}:{os.environ['PATH']}"}):
+            return self.study("hot_cells = [0, 3]\n" + SMALL, "--jobs", "2", "--out", engine, "--with", engine, *arguments)
+
+    def tables(self, engine):
+        self.study("hot_cells = [0, 3]\n" + SMALL, "--jobs", "2")
+        return (self.folder / engine / "results.csv").read_text(), (self.folder / "out" / "results.csv").read_text()
+
+    def test_parallel(self):
+        ran = self.by("parallel", "parallel", self.PARALLEL, "--workers", "3", "--engine-args", "--sshlogin 'a,b'")
+        self.assertEqual(ran.returncode, 0, ran.stderr)
+        self.assertEqual(*self.tables("parallel"))
+        self.assertIn("--jobs 3 --retries 3 ", (self.folder / "words").read_text())
+        self.assertIn(" --sshlogin a,b ", (self.folder / "words").read_text())
+        self.assertIn("study: 8 of 8 points, 0 s left\n", ran.stderr)
+
+    def test_slurm(self):
+        ran = self.by("slurm", "sbatch", self.SBATCH, "--engine-args=--partition=all")
+        self.assertEqual(ran.returncode, 0, ran.stderr)
+        self.assertEqual(*self.tables("slurm"))
+        self.assertIn(" --partition=all ", (self.folder / "words").read_text())
+
+    def test_an_engine_that_fails(self):
+        ran = self.by("slurm", "sbatch", "\nsys.exit(3)\n")
+        self.assertEqual(ran.returncode, 1)
+        log = self.folder.resolve() / "slurm" / "sbatch.log"
+        self.assertEqual(ran.stderr.splitlines()[-2:], [
+            f"study: sbatch ended with status 3; its messages are in {log}",
+            "study: 4 of 4 files of jobs have no answer: start again to run them",
+        ])
+        self.assertEqual(self.by("slurm", "sbatch", self.SBATCH).returncode, 0)
+
+
+class Plots(InFolder):
+    PLOT = '[[plot]]\nname = "p"\ntitle = "It\'s"\nx = "pes"\ny = "answered"\nby = ["wait_places"]\nwhere = "program == \'long\'"\n'
+
+    def drawn(self, plot):
+        asked = study_of((SMALL + plot).encode())
+        answers = [{"job": "0", "pes": str(2**it["stages"]), "answered": "7"} for it in asked.points()]
+        return asked.plots[0], lines_of(asked.plots[0], 0, joined(asked, asked.points(), answers))
+
+    def test_lines(self):
+        _, lines = self.drawn(self.PLOT)
+        found = [(it.label, it.group, it.is_dashed, it.points) for it in lines]
+        self.assertEqual(found, [("wait_places 0", ("0",), False, [(2, 7), (4, 7)]), ("wait_places 4", ("4",), False, [(2, 7), (4, 7)])])
+
+    def test_lines_with_labels(self):
+        line = '[[plot]]\ntitle = "t"\nx = "pes"\n[[plot.line]]\ny = "answered"\nby = ["program", "wait_places"]\nlabel = "{program} {x}"\ndashed = true\n'
+        _, lines = self.drawn(line)
+        self.assertEqual([(it.label, it.is_dashed) for it in lines], [("short {x}", True), ("long {x}", True)] * 2)
+
+    def test_colors(self):
+        solid, dashed = (Drawn("", it, False, []) for it in "ab"), (Drawn("", it, True, []) for it in "bc")
+        colors = [re.search("#[0-9a-f]+", it)[0] for it in looks([*solid, *dashed])]
+        self.assertEqual(colors, [COLORS[0], COLORS[1], COLORS[1], "#000000"])
+
+    def test_a_plot_without_a_point(self):
+        with self.assertRaisesRegex(StudyFault, r"^plot\[0\]: has no point$"):
+            self.drawn(self.PLOT.replace("'long'", "'none'"))
+
+    def test_the_script(self):
+        plot, lines = self.drawn(self.PLOT + 'log = "xy"\n')
+        text = gnuplot_script(plot, lines, "p")
+        for it in ("set title 'It''s' noenhanced", "$line1 << END\n2 7\n4 7\nEND\n", "set logscale x 2", "set output 'p.svg'", "set output 'p.png'"):
+            self.assertIn(it, text)
+
+    def test_two_points_with_the_same_x(self):
+        with self.assertRaisesRegex(StudyFault, r"^plot\[0\]\.by: a line has two points with the same pes$"):
+            self.drawn(self.PLOT.replace('by = ["wait_places"]\n', ""))
+
+    @unittest.skipUnless(shutil.which("gnuplot"), "gnuplot isn't installed")
+    def test_pictures(self):
+        self.assertEqual(self.study(SMALL + self.PLOT).returncode, 0)
+        self.assertTrue((self.folder / "out" / "p.png").read_bytes().startswith(b"\x89PNG"))
+        self.assertIn("</svg>", (self.folder / "out" / "p.svg").read_text())
+
+    def test_without_gnuplot(self):
+        with self.bare_path():
+            ran = self.study(SMALL + self.PLOT)
+        self.assertEqual(ran.returncode, 0)
+        self.assertTrue(ran.stderr.endswith("study: there is no gnuplot, so no plots are drawn (on Debian: apt-get install gnuplot-nox)\n"))
+
+
+class Refusals(InFolder):
+    HEAD = 'title = "t"\n'
+    FIXED = "[fixed]\nstages = 1\n"
+    PROGRAM = 'programs = ["short.s"]\n'
+
+    def refusal(self, text):
+        ran = self.study(text)
+        self.assertEqual((ran.returncode, ran.stdout), (3, ""), ran.stderr)
+        line = ran.stderr.splitlines()[-1]
+        self.assertTrue(line.startswith("study: study.toml: "), line)
+        return line.removeprefix("study: study.toml: ")
+
+    def test_keys(self):
+        whole = self.HEAD + self.PROGRAM + self.FIXED
+        for text, fault in (
+            ("title", "not toml: Expected '=' after a key in a key/value pair (at end of document)"),
+            (self.PROGRAM + self.FIXED, "title: must be a text"),
+            ("titel = 1\n" + whole, "titel: unknown key"),
+            (self.HEAD + self.FIXED, "programs: give either programs or traffic"),
+            (whole + "[traffic]\nrate = [1]\n", "programs: give either programs or traffic"),
+            (self.HEAD + "programs = 1\n" + self.FIXED, "programs: must be a list of files or a table with names"),
+            (self.HEAD + "programs = [1]\n" + self.FIXED, "programs.1: must be a text"),
+            (self.HEAD + 'programs = ["a", "a"]\n' + self.FIXED, "programs: has a value twice"),
+            (self.HEAD + 'programs = ["none.s"]\n' + self.FIXED, "programs.none.s: cannot read none.s"),
+            (self.HEAD + '[programs]\na = "lib gate 65 1"\n' + self.FIXED, "programs.a: ultra: bad parameter"),
+            (self.HEAD + self.PROGRAM, "fixed.stages: is missing"),
+            (whole + "speed = 3\n", "fixed.speed: unknown key"),
+            (whole + "open = 9\n", "fixed.open: must be 1 to 8"),
+            (whole + "open = true\n", "fixed.open: must be 1 to 8"),
+            (whole + "[vary]\nopen = [1, 9]\n", "vary.open: must be 1 to 8"),
+            (whole + "[vary]\nopen = 1\n", "vary.open: must be a list with a value"),
+            (whole + "[vary]\nopen = []\n", "vary.open: must be a list with a value"),
+            (whole + "[vary]\nopen = [1, 1]\n", "vary.open: has a value twice"),
+            (whole + "[vary]\nopen = [[1]]\n", "vary.open: must be a list of numbers or texts"),
+            (whole + "[vary]\nstages = [1]\n", "fixed.stages: is varied too"),
+            (whole + "[vary]\nspeed = [1]\n", "vary.speed: unknown key"),
+            ("hot_cells = 0\n" + whole, "hot_cells: must be a list of cells"),
+            ("hot_cells = [-1]\n" + whole, "hot_cells: must be a list of cells"),
+            ("fixed = 1\n" + self.HEAD + self.PROGRAM, "fixed: must be a table"),
+            ("vary = 1\n" + whole, "vary: must be a table"),
+            ("traffic = 1\n" + self.HEAD + self.FIXED, "traffic: must be a table"),
+            ("columns = 1\n" + whole, "columns: must be a table"),
+            ("plot = 1\n" + whole, "plot: must be tables [[plot]]"),
+            ("plot = [1]\n" + whole, "plot[0]: must be a table"),
+            (whole + '[columns]\n"a b" = "1"\n', "columns.a b: must be a name"),
+            (whole + '[[plot]]\ntitle = "t"\nx = "pes"\nline = 1\n', "plot[0].line: must be tables [[plot.line]]"),
+            (whole + '[[plot]]\ntitle = "t"\nx = "pes"\nline = [1]\n', "plot[0].line[0]: must be a table"),
+        ):
+            self.assertEqual(self.refusal(text), fault)
+
+    def test_traffic(self):
+        head = self.HEAD + self.FIXED + "[traffic]\n"
+        for text, fault in (
+            ("rate = [1]\nthink = [9]\n", "traffic: give either rate or think"),
+            ("rate = [1]\nheat = [1]\n", "traffic.heat: unknown key"),
+            ("rate = 1\n", "traffic.rate: must be a list with a value"),
+            ('rate = ["fast"]\n', "traffic.rate: must be numbers"),
+            ("rate = [1]\nhot = [0.5]\n", "traffic.hot: must be numbers"),
+            ("rate = [1]\noperation = [1]\n", "traffic.operation: must be texts"),
+            ("rate = [20]\n", "traffic.rate: must be 0.04 to 16.32 here"),
+            ("rate = [1]\nhot = [2000]\n", "traffic.hot: must be 0 to 1024"),
+            ("rate = [1]\noperation = [\"add\"]\n", "traffic.operation: must be load, store, faa or swap"),
+        ):
+            self.assertEqual(self.refusal(head + text), fault)
+
+    def test_formulas(self):
+        for text, fault in (
+            ('where = "stages >"' + SMALL, "where: isn't a formula"),
+            ("where = 1" + SMALL, "where: must be a formula in quotes"),
+            ('where = "open > 1"' + SMALL, "where: there is no column open"),
+            ('where = "stages > 2"' + SMALL, "where: leaves no point"),
+            (SMALL + '[columns]\na = "print(1)"\n', "columns.a: may only have names, numbers, texts, + - * / // %, comparisons, and, or, not"),
+            (SMALL + '[columns]\na = "none + 1"\n', "columns.a: there is no column none"),
+            (SMALL + '[columns]\npes = "to"\n', "columns.pes: is a column already"),
+        ):
+            self.assertEqual(self.refusal(text), fault)
+
+    def test_plots(self):
+        plot = SMALL + '[[plot]]\ntitle = "t"\n'
+        for text, fault in (
+            (SMALL + "plot = 1\n", "programs.plot: must be a text"),
+            (SMALL + '[[plot]]\nx = "pes"\ny = "to"\n', "plot[0].title: must be a text"),
+            (plot + 'y = "to"\n', "plot[0].x: must be a text"),
+            (plot + 'x = "pes"\n', "plot[0].y: must be a text"),
+            (plot + 'x = "pes"\ny = "to"\nlog = "z"\n', "plot[0].log: must be x, y or xy"),
+            (plot + 'x = "pes"\ny = "to"\nby = "pes"\n', "plot[0].by: must be a list of columns"),
+            (plot + 'x = "pes"\ny = "to"\nname = "a/b"\n', "plot[0].name: must be a name"),
+            (plot + 'x = "pes"\ny = "to"\ncolor = 1\n', "plot[0].color: unknown key"),
+            (plot + 'x = "pes"\ny = "none"\n', "plot[0]: there is no column none"),
+            (plot + 'x = "pes"\n[[plot.line]]\ny = "to"\nwidth = 1\n', "plot[0].line[0].width: unknown key"),
+            (plot + 'x = "pes"\n[[plot.line]]\ny = "to"\ndashed = 1\n', "plot[0].line[0].dashed: must be true or false"),
+        ):
+            self.assertEqual(self.refusal(text), fault)
+
+    def test_arguments(self):
+        for arguments, fault in (
+            (["--jobs", "257"], "argument --jobs: must be 1 to 256"), (["--workers", "0"], "argument --workers: must be 1 to 64"),
+            (["--with", "cloud"], "argument --with: invalid choice"),
+        ):
+            ran = self.study(SMALL, *arguments)
+            self.assertEqual(ran.returncode, 2)
+            self.assertIn(fault, ran.stderr)
+        self.assertIn("study: --engine-args is for parallel and slurm\n", self.study(SMALL, "--engine-args", "x").stderr)
+
+    def test_a_missing_file_or_engine(self):
+        with self.bare_path():
+            ran = self.study(SMALL, "--with", "slurm")
+        self.assertEqual((ran.returncode, ran.stderr.splitlines()[-1]), (1, "study: there is no command sbatch"))
+        for name, fault in (("/none/ultra", "there is no program /none/ultra"), ("/bin/false", "/bin/false --version failed")):
+            ran = self.study(SMALL, ultra=name)
+            self.assertEqual((ran.returncode, ran.stderr), (1, f"study: {fault}\n"))
+        ran = subprocess.run([STUDIES / "study", "none.toml"], cwd=self.folder, capture_output=True, text=True)
+        self.assertEqual((ran.returncode, ran.stderr), (3, "study: cannot read none.toml\n"))
+
+
+if __name__ == "__main__":
+    unittest.main()
