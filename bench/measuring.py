@@ -1,7 +1,32 @@
 """What the scripts that measure this simulator beside another one share."""
 
 import os
+import resource
+import subprocess
+import sys
+from pathlib import Path
 from statistics import geometric_mean
+
+HERE = Path(__file__).resolve().parent
+
+
+def build():
+    """Proves and builds the program `bench`."""
+    ran = subprocess.run([HERE / "../tools/prove", "--once", "bench"], capture_output=True, text=True)
+    if ran.returncode:
+        sys.exit("\n".join((ran.stdout + ran.stderr).splitlines()[-20:]))
+
+
+def processor_seconds(command):
+    """The processor seconds that a command takes."""
+    before = seconds_of_children()
+    subprocess.run(command, check=True, stdout=subprocess.DEVNULL)
+    return seconds_of_children() - before
+
+
+def seconds_of_children():
+    used = resource.getrusage(resource.RUSAGE_CHILDREN)
+    return used.ru_utime + used.ru_stime
 
 
 def measure_in_rounds(rows, simulator, folder):

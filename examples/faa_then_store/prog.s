@@ -1,7 +1,8 @@
+; PE 0 stores 10 in cell 0, and PE 1 adds 3 to it: PE 1's request is old
 li r2 3
 li r4 10
 pid r1
-jnz r1 w
+jnz r1 w            ; PE 1 goes to w
 st r0 r4
 halt
 w:

@@ -1,0 +1,1 @@
+; no instruction: each PE faults, since it is past the end

@@ -1,1 +1,2 @@
+; each PE halts at once
 halt
