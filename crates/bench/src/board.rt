@@ -1,7 +1,7 @@
-//! Draws all numbers of a board by 1, 2 or 4 threads, again and again, and prints how often a
-//! number was asked for: in each round as often as there are numbers, and once more by each thread.
+//! Draws all numbers of a board by 1, 2 or 4 threads, round after round, and prints how often a
+//! number was asked for. A round asks once for each number, and each thread asks once more.
 //!
-//! The words are the number of threads and the number of rounds.
+//! The arguments are the number of threads and the number of rounds.
 
 ghost use Rattle.std.specs.Prelude.{◌≡◌, ◌+◌};
 

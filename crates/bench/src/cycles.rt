@@ -1,7 +1,7 @@
 //! Runs a machine without writing its trace, and prints how many cycles it made, and a digest of
 //! the cells.
 //!
-//! The words are the file of a program's text, the number of stages, the number of cycles, and
+//! The arguments are the file of a program's text, the number of stages, the number of cycles, and
 //! which sizes the parts have: `default`, `narrow` or `deep`.
 
 use crate::cells::{digest, of_machine};

@@ -1,9 +1,9 @@
-//! Makes the serial order and the log of a run, checks the one against the other, and prints how
+//! Makes the serial order and the log of a run, and checks the order against the log. It prints how
 //! many entries the order has, how many issues and answers the log has, and `Ok` or what is wrong.
 //!
-//! The words are the file of a program's text, the number of stages, the number of cycles, at most
-//! 1,000,000, and how far to go: `order` makes the order alone, `log` the log too, and `check` also
-//! checks them. All parts of the machine have the default sizes.
+//! The arguments are the file of a program's text, the number of stages, the number of cycles, at
+//! most 1,000,000, and how far to go. `order` makes the order alone, `log` the log too, and `check`
+//! also checks them. All parts of the machine have the default sizes.
 
 use crate::cells::of_machine;
 use crate::cycles::make_cycles;

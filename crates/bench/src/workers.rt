@@ -1,9 +1,9 @@
 //! Has workers make cycles of a machine, and prints how many cycles it made and a digest of its
 //! cells, which is the same for every number of workers.
 //!
-//! The words are the file of a program's text, the number of stages, the number of cycles, the
-//! number of workers, and `kept` where their threads are started once or `anew` where they are
-//! started for each cycle. All parts of the machine have the default sizes.
+//! The arguments are the file of a program's text, the number of stages, the number of cycles, the
+//! number of workers, and `kept` or `anew`. With `kept` the workers' threads are started once, with
+//! `anew` they are started for each cycle. All parts of the machine have the default sizes.
 
 ghost use Rattle.std.specs.Prelude.{◌≤◌};
 

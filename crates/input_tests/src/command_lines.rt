@@ -1,4 +1,4 @@
-//! What the words of a command line ask for.
+//! What the arguments of a command line ask for.
 
 use std::alloc::{AllocError, Global};
 use std::process::Abort;

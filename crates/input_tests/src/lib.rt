@@ -1,5 +1,5 @@
-//! Tests of what the program is given: command lines, texts of settings and files. They stand in a crate of their own, so
-//! that no library is proved a second time with its tests.
+//! Tests of what the program is given: command lines, texts of settings and files. They are in a
+//! separate crate, so that no library is proved a second time with its tests.
 #![tactic(auto)]
 
 #[cfg(test)]

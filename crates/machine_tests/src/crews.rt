@@ -91,7 +91,7 @@ const TWO_BLOCKS: &[u8] = &[0, 1, 0, 1, 0];
 /// The five units of one stage in three blocks with work.
 const THREE_BLOCKS: &[u8] = &[0, 1, 2, 0, 1];
 
-/// Two blocks with work and two workers: in every half each worker waits for the other at the gate. A crew that makes all blocks in one thread keeps the contracts too, but fails this test: the turns run out, or no flag is raised where it calls no gate.
+/// Two blocks with work and two workers: in every half each worker waits for the other at the gate. A crew that makes all blocks in one thread keeps the contracts too, but fails this test. The turns run out, or, where it calls no gate, no flag is raised.
 #[test]
 fn gate_meets(rt: HostRuntime) -> Result<(), Fail> {
     let meeting = Meeting::new();

@@ -30,7 +30,7 @@ fn given_back(
     }
 }
 
-/// The machine goes on where it stood.
+/// The machine goes on from where it was.
 fn goes_on(rt: &impl Abort, machine: &mut Machine) {
     assert!(rt; machine.done() == 5);
     run_to(rt, machine, 0, &[combined_event(1, 0, 2, 3)]);
@@ -45,7 +45,7 @@ fn go_on(rt: &impl Abort, blocks: &mut Blocks) {
     tree_is_answered(rt, blocks);
 }
 
-/// A machine goes on where it stood when a partition has a unit too few, or names block 64.
+/// When a partition has a unit too few, or names block 64, the machine goes on from where it was.
 #[test]
 fn bad_partitions(rt: HostRuntime) -> Result<(), Fail> {
     let machine = on_its_way(&rt)?;
@@ -67,7 +67,7 @@ fn goes_on_in(rt: &(impl Abort + AllocGlobal), partition: &[u8]) -> Result<(), F
     }
 }
 
-/// With each allocation refused in turn, the machine goes on in blocks, or is given back and goes on where it stood.
+/// With each allocation refused in turn, the machine goes on in blocks, or is given back and goes on from where it was.
 #[test]
 fn a_machine_is_cut_or_given_back(rt: HostRuntime) -> Result<(), Fail> {
     match on_its_way(&rt)?.into_blocks(rt.alloc(), &[0, 0, 1, 1, 2, 2, 2, 2, 3, 3, 3, 3]) {

@@ -43,7 +43,7 @@ fn lane<'m>(rt: &impl Abort, machine: &'m Machine, stage: u32, position: u32) ->
     machine.lane(stage, position)
 }
 
-/// What stands in a queue toward memory: requests of processing elements for a cell, and whether each has combined there.
+/// What is in a queue toward memory: requests of processing elements for a cell, and whether each has combined there.
 pub(crate) fn queue_is(rt: &impl Abort, lane: &ToMm, wanted: &[(Pe, u32, Op, bool)]) {
     assert_eq!(rt; lane.len(), wanted.len());
     for (index, &(pe, cell, op, combined)) in wanted.iter().enumerate() {

@@ -84,7 +84,7 @@ fn note_free(machine: &Machine, schedule: &mut Vec<Pe>) -> Result<(), Fail> {
     Ok(())
 }
 
-/// Makes a cycle of the machine, and puts into the schedule what goes with it: first the processing elements whose requests acted, in serial order, then those that have no cell open, by number.
+/// Makes a cycle of the machine, and puts its processing elements into the schedule. First come those whose requests acted, in serial order, then those that have no cell open, by number.
 fn make_cycle(
     rt: &impl Abort,
     alloc: Global,

@@ -1,4 +1,4 @@
-//! Tests of the libraries, over their public calls. They stand in a crate of their own, so that no library is proved a second time with its tests.
+//! Tests of the libraries, over their public calls. They are in a separate crate, so that no library is proved a second time with its tests.
 #![tactic(auto)]
 
 #[cfg(test)]

@@ -94,7 +94,7 @@ fn any_workers_of_the_largest_machine(rt: HostRuntime) -> Result<(), Fail> {
     Ok(())
 }
 
-/// Two workers: in every half each waits for the other at the gate. A run that makes all blocks in one thread keeps the contracts too, but fails this test: the turns run out, or no flag is raised where it calls no gate.
+/// Two workers: in every half each waits for the other at the gate. A run that makes all blocks in one thread keeps the contracts too, but fails this test. The turns run out, or, where it calls no gate, no flag is raised.
 #[test]
 fn gate_meets(rt: HostRuntime) -> Result<(), Fail> {
     let config = config(rt.alloc(), 1)?;
@@ -112,7 +112,7 @@ fn ends_in_a_fault<R: Abort>(rt: &R, out: &MemorySink<'_, R>, taken: usize) {
     assert_eq!(rt; out.failures, 1);
 }
 
-/// Asserts that a run by n workers, into a sink that takes `most` bytes a write and fails after `count` writes, answers `Write`, has written these bytes of the trace, and offers nothing after the fault.
+/// A run by n workers writes into a sink that takes `most` bytes a write and fails after `count` writes. Asserts that it answers `Write`, has written the first `most * count` bytes of the trace, and offers nothing after the fault.
 fn check_failing_sink<R: Threads + Wait + Sync + Abort + AllocGlobal>(
     rt: &R,
     config: &Config,
@@ -178,7 +178,7 @@ fn short_run<R: Threads + Wait + Sync + Abort + AllocGlobal>(
     Ok(run_by(rt, &config, &program, workers, &Counter::new(), out)?)
 }
 
-/// A run by n workers, short enough to refuse each of its allocations in turn: it ends with a fault then, and what went out is a prefix of the trace.
+/// A run by n workers, short enough to refuse each of its allocations in turn. It ends with a fault then, and what was written is a prefix of the trace.
 fn check_short_run<R: Threads + Wait + Sync + Abort + AllocGlobal>(
     rt: &R,
     workers: usize,

@@ -6,7 +6,7 @@ use std::test::Fail;
 
 /// A call of the program, and what it does.
 pub(crate) struct Answer {
-    /// The words of the command line.
+    /// The arguments. The first is the program's name.
     pub(crate) words: &'static [&'static str],
     /// The files, by name.
     pub(crate) files: &'static [(&'static str, &'static [u8])],

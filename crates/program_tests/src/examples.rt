@@ -194,7 +194,7 @@ pub(crate) static TWO_STAGES: [Example; 6] = [
     },
 ];
 
-/// Two processing elements refer to the cells of module 0 from both ends. The first eight requests of each are for cells of its own, so they wait in one queue; the others are for cells of the other one's requests.
+/// Two processing elements refer to the cells of module 0 from both ends. The first eight requests of both are for 16 different cells, so they wait in one queue. The later requests of each are for cells of the other's first eight.
 const FROM_BOTH_ENDS: &[u8] = b"\
 pid r0
 li r1 2

@@ -108,8 +108,8 @@ fn fault_of<R: Host>(rt: &R, words: &[&str], wanted: u8) -> Result<String, Fail>
     Ok(err)
 }
 
-/// Asserts that the write after the first `count` writes of a text may be the one that fails: what
-/// stands before it was written, and nothing is written after it.
+/// Asserts that the write after the first `count` writes of a text may be the one that fails: the
+/// bytes before it were written, and nothing is written after it.
 fn check_write<R: Host>(rt: &R, words: &[&str], text: &str, count: usize) -> Result<(), Fail> {
     let ended = call(rt, words, Limits::failing_once_after(count), Limits::none())?;
     ended.check_cut(rt, text);
@@ -148,8 +148,8 @@ fn each_write_of_a_help_text_fails_in_turn(rt: HostRuntime) -> Result<(), Fail> 
     check_writes(&rt, &["ultra", "--version"])
 }
 
-/// Asserts that the write to standard error after the first `count` writes may be the one that fails:
-/// the status is the same, and nothing is written after it, nor to standard output.
+/// Asserts that the write to standard error after the first `count` writes may be the one that
+/// fails. The status is the same then. Nothing is written after it, nor to standard output.
 fn check_fault<R: Host>(
     rt: &R,
     words: &[&str],
@@ -220,8 +220,8 @@ fn a_status_is_that_of_standard_output(rt: HostRuntime) -> Result<(), Fail> {
     Ok(())
 }
 
-/// With each call for memory or for a thread refused in turn, a command gives its full answer, or a
-/// prefix of it and a line that says what was refused.
+/// Each call for memory or for a thread is refused in turn. A command then gives its full answer,
+/// or a prefix of it and a line that says what was refused.
 #[test]
 fn a_command_is_refused_or_whole(rt: HostRuntime) -> Result<(), Fail> {
     for (words, _) in &COMMANDS {

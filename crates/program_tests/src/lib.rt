@@ -1,5 +1,5 @@
-//! Tests of the program over its public calls, with files and streams in memory. They stand in a
-//! crate of their own, so that no library is proved a second time with its tests.
+//! Tests of the program over its public calls, with files and streams in memory. They are in a
+//! separate crate, so that no library is proved a second time with its tests.
 #![tactic(auto)]
 
 #[cfg(test)]

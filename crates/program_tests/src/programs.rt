@@ -325,7 +325,7 @@ fn long_orders_are_written_in_pieces(rt: HostRuntime) -> Result<(), Fail> {
     check_command(&rt, &ORDER, MANY_CYCLES, program.as_bytes(), wanted)
 }
 
-/// Standard output fails at the second write of such an order.
+/// Standard output fails at the second write of a long order.
 #[test]
 fn a_prefix_of_a_long_order_is_written(rt: HostRuntime) -> Result<(), Fail> {
     let program = many_loads(rt.alloc(), 4000)?;

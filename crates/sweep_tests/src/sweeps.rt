@@ -84,7 +84,7 @@ pub(crate) fn sweep_by_two<R: Threads + Wait + Sync + Abort + AllocGlobal, G: Jo
     together(first.1, second.1)
 }
 
-/// The results of two threads, one after the other.
+/// The results of the first thread, then those of the second.
 fn together(
     first: Result<Vec<JobResult>, WorkFault>,
     second: Result<Vec<JobResult>, WorkFault>,
@@ -146,10 +146,10 @@ fn most_jobs_in_order(rt: HostRuntime) -> Result<(), Fail> {
 }
 
 /// Two threads. Where two jobs may run at once, each waits in its run for the other's; where one
-/// may, none ever runs beside another. A `work` that runs one job at a time, for example one in
-/// which job n waits until n jobs are finished, fails this test: the turns run out, as they do where
-/// a thread can't be started, since `join` then makes one call after the other. So does one that
-/// goes past the passes: two runs are under way at once.
+/// may, none ever runs beside another. A `work` that runs one job at a time fails
+/// this test, for example one in which job n waits until n jobs are finished: the turns run out.
+/// They run out too where a thread can't be started, since `join` then makes the calls sequentially.
+/// A `work` that ignores the passes also fails: two runs are under way at once.
 #[test]
 fn jobs_meet(rt: HostRuntime) -> Result<(), Fail> {
     let jobs = two_jobs(rt.alloc())?;

@@ -67,7 +67,7 @@ pub(crate) fn issue(pe: Pe, number: u32, word: Word) -> Event {
     }
 }
 
-/// Two requests for cell 0 combine. The one that stood in the queue comes first.
+/// Two requests for cell 0 combine. The one that was in the queue comes first.
 pub(crate) fn meeting(stage: u32, position: u32, old: Pe, new: Pe) -> Event {
     Event::Combined {
         stage,

@@ -180,7 +180,7 @@ pub enum Coordination {
     Tickets { rounds: u32 },
 }
 
-/// What the words of a command line ask for.
+/// What the arguments of a command line ask for.
 #[derive(Drop)]
 pub enum Parsed<'w> {
     /// A command.
@@ -189,7 +189,7 @@ pub enum Parsed<'w> {
     Help(String),
     /// The version: a text for standard output.
     Version(String),
-    /// No command, since the words are wrong: a text for standard error.
+    /// No command, since the arguments are invalid: a text for standard error.
     Usage(String),
     /// It isn't known, since memory was refused.
     NoMemory,

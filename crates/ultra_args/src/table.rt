@@ -22,7 +22,7 @@ pub enum CommandName {
 /// A command and its arguments. `T` is the type of its name, `A` that of its arguments.
 ///
 /// These types take the references in them as parameters: the prover only names a constant in
-/// `specs/` whose type has none of its own.
+/// `specs/` whose type itself has none.
 #[derive(Drop)]
 pub struct CommandRow<T, A> {
     /// Which command it is.

@@ -4,8 +4,8 @@ ghost use Rattle.std.specs.Prelude.{◌≡◌, ◌≤◌};
 
 use std::marker::Model;
 
-/// A number of threads of the host, 1 to 64. In a run one worker is the caller's thread, and of
-/// several each has a thread of its own. Contracts see the number.
+/// A number of threads of the host, 1 to 64. In a run a single worker is the caller's thread,
+/// and several workers have a thread each. Contracts see the number.
 ///
 /// Only the command line gives one, so no other number can be taken for it.
 #[derive(Clone, Copy)]

@@ -51,7 +51,7 @@ fn target(instruction: Instr) -> Option<u16>
     }
 }
 
-/// Writes the canonical text of a program: each instruction on a line of its own, and the line `Lk:` before the one at program counter `k`, or at the end, where some jump goes there.
+/// Writes the canonical text of a program, one instruction a line. Where some jump goes to program counter `k`, the line `Lk:` is before the instruction at `k`, or at the end.
 ///
 /// It takes no memory, and fails only where the sink does. After a fault the sink has taken a prefix of the text.
 pub fn listing<S: Sink>(program: &Program, sink: &mut S) -> Result<(), SinkFault>
@@ -94,7 +94,7 @@ fn write_pc<S: Sink>(
     write_instruction(buffer, instruction);
 }
 
-/// Writes the label of a program counter on a line of its own, if some jump goes there.
+/// Writes a line with the label of a program counter, if some jump goes there.
 fn write_label_line<S: Sink>(buffer: &mut TextBuffer<'_, S>, targets: &Targets, pc: usize)
     requires { pc ≤ MOST_INSTRUCTIONS }
     ensures { Writes S.taken S.failures (label_if (slice_index_or targets.now.marked pc false) pc) buffer.old buffer.new }
@@ -105,7 +105,7 @@ fn write_label_line<S: Sink>(buffer: &mut TextBuffer<'_, S>, targets: &Targets, 
     }
 }
 
-/// Writes an instruction on a line of its own.
+/// Writes the line of an instruction.
 fn write_instruction<S: Sink>(buffer: &mut TextBuffer<'_, S>, instruction: Instr)
     ensures { Writes S.taken S.failures (instruction_line instruction) buffer.old buffer.new }
 {

@@ -29,7 +29,7 @@ pub struct Label<'t> {
 
 /// The labels of a text.
 ///
-/// They stand in a list, which takes less memory than a map: a text may consist of labels.
+/// They are in a list, which takes less memory than a map: a text may consist of labels.
 #[derive(Drop)]
 pub struct Labels<'t> {
     /// By name, and then by line.
@@ -87,7 +87,7 @@ impl<'t> Labels<'t> {
     }
 }
 
-/// How many of these lines, which rise, stand before a line.
+/// How many of these lines, which are in ascending order, are before a line.
 fn pc_at(lines: &[usize], line: usize) -> usize
     requires { IsNonDecreasing lines.now }
     ensures { result ≡ pc_at lines.now line }

@@ -11,7 +11,7 @@ use crate::words::{before_colon, is_name, number_written, register_named, shift_
 use ultra_isa::Instr;
 use ultra_msg::{Register, Shift, Word};
 
-/// What can stand as an operand of an instruction.
+/// What can be an operand of an instruction.
 pub trait Readable: Sized {
     ghost use Rattle.std.specs.Prelude.{ℕ, List, Result};
     ghost use Rattle.ultra_asm.specs.declared.AsmFaultKind.{AsmFaultKind};
@@ -165,7 +165,7 @@ fn statement_instruction(
     Ok(Some(instruction(mnemonic, operands, labels)?))
 }
 
-/// Whether the line of this index, from 0, may begin as its words do: what ends with `:` must be a label, and one that stood on no earlier line.
+/// Whether the line of this index, from 0, may begin as its words do. If the first word ends with `:`, it must be a label, and one of no earlier line.
 fn check_label(words: &[&[u8]], index: usize, labels: &Labels) -> Result<(), AsmFaultKind>
     ensures { result ≡ check_label (definition_in labels.now) index (map (λ w. w.now) words.now) }
 {

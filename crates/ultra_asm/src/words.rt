@@ -55,7 +55,7 @@ fn is_separator(byte: u8) -> bool
     byte == b' ' || byte == b'\t' || byte == b'\r' || byte == b','
 }
 
-/// What stands before the `:` at a word's end, if there is one.
+/// What is before the `:` at a word's end, if there is one.
 pub fn before_colon(word: &[u8]) -> Option<&[u8]>
     ensures { option_copied result ≡ before_colon word.now }
 {
@@ -72,7 +72,7 @@ pub fn is_name(word: &[u8]) -> bool
     !word.is_empty() && word.len() <= MOST_NAME_BYTES && is_letter(word[0]) && all_in_names(word)
 }
 
-/// Whether each byte can stand in a name.
+/// Whether each byte can be in a name.
 fn all_in_names(word: &[u8]) -> bool
     ensures { result ≡ list_all is_name_byte word.now }
 {

@@ -41,7 +41,7 @@ pub struct Parts {
 }
 
 impl Parts {
-    /// The block in which the unit with this number stands.
+    /// The block of the unit with this number.
     fn home_of(&self, unit: usize) -> &Block
         requires whole { AreParts self.now }
         requires unit { unit < unit_count self.now.config.stages }
@@ -51,7 +51,7 @@ impl Parts {
     }
 }
 
-/// A whole machine, cut into blocks, between two cycles: its settings, its program, the block in which each unit stands, and the blocks. Switches come first in the partition, then modules, then processing elements.
+/// A whole machine, cut into blocks, between two cycles: its settings, its program, the block of each unit, and the blocks. Switches come first in the partition, then modules, then processing elements.
 ///
 /// Contracts see it as the machine of the definition, the same for every partition.
 #[derive(Drop)]
@@ -69,9 +69,9 @@ impl Model for Blocks {
 
 #[tactic(auto, using(crate::proofs::Seen::parts_are))]
 impl Blocks {
-    /// The machine of these settings and this program before its first cycle, with all units in one block: all registers and cells are 0 but for the initial ones, and nothing is on its way.
+    /// The machine of these settings and this program before its first cycle, with all units in one block. All registers and cells are 0 except the initial ones, and nothing is on its way.
     ///
-    /// It keeps copies of its own. An error says that memory was refused.
+    /// It keeps copies of both. An error says that memory was refused.
     pub fn in_one_block(
         alloc: Global,
         config: &Config,
@@ -112,7 +112,7 @@ impl Blocks {
             .map_err(|(_, fault)| fault)
     }
 
-    /// The same machine cut by a partition: its units move to other blocks, and nothing else changes. All of them have to stand in one block before. The partition names the block of each unit as for `new`.
+    /// The same machine cut by a partition: its units move to other blocks, and nothing else changes. All of them have to be in one block before. The partition names the block of each unit as for `new`.
     ///
     /// `BadPartition` says that it is not one; it is found before memory is asked for. `NoMemory` says that memory was refused. With either the same machine is given back.
     pub fn recut(self, alloc: Global, partition: &[u8]) -> Result<Blocks, (Blocks, PartitionFault)>
@@ -258,7 +258,7 @@ impl Blocks {
         stops
     }
 
-    /// Whether all units stand in one block, so that nothing has to be merged.
+    /// Whether all units are in one block, so that nothing has to be merged.
     pub fn is_in_one_block(&self) -> bool
         ensures { result ≡ (self.now.count == 1) }
     {

@@ -25,7 +25,7 @@ pub(crate) fn make_cycle(blocks: &mut [Block], config: &Config, partition: &[u8]
     }
 }
 
-/// Blocks, however many, make a cycle. All make a half before any makes the next, and between the two halves of a phase each message goes to the block of the unit to which it leads. It stands apart so that a machine in one block makes no room for what is noted here.
+/// Blocks, however many, make a cycle. All make a half before any makes the next, and between the two halves of a phase each message goes to the block of the unit to which it leads. It is a separate function, so that a machine in one block makes no room for what is noted here.
 #[inline(never)]
 fn make_cycle_of_several(blocks: &mut [Block], config: &Config, partition: &[u8], done: u32)
     requires whole { (program : List Instr) × AreWhole config.now program partition.now done blocks.old }
@@ -45,7 +45,7 @@ fn make_cycle_of_several(blocks: &mut [Block], config: &Config, partition: &[u8]
     make(blocks, Half::Execute, &rooms);
 }
 
-/// The one block in which a whole machine stands makes a cycle. It knows all rooms, and its messages lead to its own units. The code for a `SMALL` machine is compiled apart.
+/// The one block of a whole machine makes a cycle. It knows all rooms, and its messages lead to its own units. The code for a `SMALL` machine is compiled as a specialised copy.
 #[inline(never)]
 fn make_cycle_of_one<const SMALL: bool>(block: &mut Block)
     requires small { SMALL ≡ true → IsSmall block.old.stages }

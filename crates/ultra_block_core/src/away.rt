@@ -23,7 +23,7 @@ fn next_of(away: UnitSet, from: usize) -> Option<usize>
 }
 
 impl Block {
-    /// The first unit from `from` on to which replies may lead from this block, if it stands elsewhere.
+    /// The first unit from `from` on that isn't in this block and to which replies may lead from it.
     #[inline(always)]
     #[tactic(auto, using(crate::proofs::Known::next_away))]
     pub fn next_reply_target_elsewhere(&self, from: usize) -> Option<usize>
@@ -66,7 +66,7 @@ impl Block {
         self.replies.add_messages_to(unit, inlets, replies);
     }
 
-    /// The first unit from `from` on to which requests may lead from this block, if it stands elsewhere.
+    /// The first unit from `from` on that isn't in this block and to which requests may lead from it.
     #[inline(always)]
     #[tactic(auto, using(crate::proofs::Known::next_away))]
     pub fn next_request_target_elsewhere(&self, from: usize) -> Option<usize>

@@ -25,14 +25,14 @@ pub struct Block {
     pub(crate) done: u32,
     /// What the machine's processing elements run.
     pub(crate) program: Program,
-    /// By the number of the switch, each that stands here.
+    /// The switches of this block, by their numbers.
     pub(crate) switches: Vec<Option<Switch>>,
-    /// By the number of the module, each that stands here.
+    /// The modules of this block, by their numbers.
     pub(crate) modules: Vec<Option<Module>>,
-    /// By the number of the processing element, each that stands here.
+    /// The processing elements of this block, by their numbers.
     pub(crate) elements: Vec<Option<ProcessingElement>>,
     pub(crate) sets: Sets,
-    /// At least the processing elements that may do something in a step. All others are at rest until a reply is delivered.
+    /// A superset of the processing elements that may do something in a step. All others are at rest until a reply is delivered.
     pub(crate) awake: UnitSet,
     pub(crate) replies: Links<ReplyPacket>,
     pub(crate) requests: Links<RequestPacket>,
@@ -53,7 +53,7 @@ impl Model for Block {
 }
 
 impl Block {
-    /// The unit with this number, wherever it stands.
+    /// The unit with this number, in whichever block it is.
     #[inline(always)]
     pub(crate) fn unit(&self, number: usize) -> Unit
         ensures value { result ≡ unit_of self.now.stages number }
@@ -62,7 +62,7 @@ impl Block {
         self.wiring.unit(number)
     }
 
-    /// The switch of this number, counted over all stages. It has to stand here.
+    /// The switch of this number, counted over all stages. It has to be in this block.
     pub fn switch(&self, number: usize) -> &Switch
         requires { is_some (own_switch self.now.switches number) ≡ true }
         ensures { Some result.now ≡ own_switch self.now.switches number }
@@ -70,7 +70,7 @@ impl Block {
         self.switches[number].as_ref().unwrap()
     }
 
-    /// The module of this number. It has to stand here.
+    /// The module of this number. It has to be in this block.
     pub fn module(&self, number: u32) -> &Module
         requires { is_some (own_module self.now.modules number) ≡ true }
         ensures { Some result.now ≡ own_module self.now.modules number }
@@ -78,7 +78,7 @@ impl Block {
         self.modules[number as usize].as_ref().unwrap()
     }
 
-    /// The processing element of this number. It has to stand here.
+    /// The processing element of this number. It has to be in this block.
     pub fn element(&self, pe: u32) -> &ProcessingElement
         requires { is_some (own_element self.now.elements pe) ≡ true }
         ensures { Some result.now ≡ own_element self.now.elements pe }

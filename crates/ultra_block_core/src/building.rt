@@ -92,7 +92,7 @@ impl Block {
         self.elements[pe as usize] = Some(element);
     }
 
-    /// The unit of this number goes to another block of the machine, if it stands here.
+    /// Moves the unit of this number to another block of the machine, if it is in this one.
     pub fn move_unit(&mut self, number: usize, to: &mut Block)
         requires { to.old.stages ≡ self.old.stages }
         ensures left { self.new ≡ without_unit number self.old }

@@ -17,7 +17,7 @@ pub enum Held {
 }
 
 impl Block {
-    /// The units that stand here and hold what is asked for.
+    /// The units of this block that hold what is asked for.
     #[inline(always)]
     pub fn holding(&self, held: Held) -> &UnitSet
         ensures { IsSetOf (holds_at self.now held) result.now }

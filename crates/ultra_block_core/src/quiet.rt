@@ -8,7 +8,7 @@ use ultra_mem::Module;
 use ultra_switch::Switch;
 use ultra_unit_steps::{ProcessingElement, modules, switches};
 
-/// Whether each switch that stands here is quiet.
+/// Whether each switch of a block is quiet.
 fn are_switches_quiet(entries: &[Option<Switch>]) -> bool
     ensures { result ≡ list_all (or_elsewhere quiet_switch) entries.now }
 {
@@ -18,7 +18,7 @@ fn are_switches_quiet(entries: &[Option<Switch>]) -> bool
     })
 }
 
-/// Whether each module that stands here is quiet.
+/// Whether each module of a block is quiet.
 fn are_modules_quiet(entries: &[Option<Module>]) -> bool
     ensures { result ≡ list_all (or_elsewhere quiet_module) entries.now }
 {
@@ -28,7 +28,7 @@ fn are_modules_quiet(entries: &[Option<Module>]) -> bool
     })
 }
 
-/// Whether each processing element that stands here is quiet.
+/// Whether each processing element of a block is quiet.
 fn are_elements_quiet(entries: &[Option<ProcessingElement>]) -> bool
     ensures { result ≡ list_all (or_elsewhere quiet_element) entries.now }
 {

@@ -34,7 +34,7 @@ impl Rooms {
 }
 
 impl Block {
-    /// Notes which of its switches, queues and modules have no room. The blocks of a machine do so one after the other, and the first begins with `Rooms::all_open`.
+    /// Notes which of its switches, queues and modules have no room. The blocks of a machine do so sequentially, and the first begins with `Rooms::all_open`.
     #[inline(always)]
     pub fn rooms(&self, rooms: &mut Rooms)
         ensures { HasNoted self.now rooms.old rooms.new }

@@ -1,4 +1,4 @@
-//! What is known of the units that stand in a block, as sets of their numbers.
+//! What is known of the units of a block, as sets of their numbers.
 
 ghost use Rattle.std.specs.Prelude.{◌≡◌, ℕ, ◌<◌, true, false, Some, is_some, ◌&&◌, ◌||◌};
 ghost use Rattle.ultra_block_core.specs.Prelude.{has_stopped, holds_request, has_reply_room, has_request_room, holds_replies, holds_requests, keeps_records, has_unit};
@@ -9,10 +9,10 @@ use ultra_switch::{Ports, Switch};
 use ultra_topology::{UnitNumber, UnitSet};
 use ultra_unit_steps::{ProcessingElement, modules, switches};
 
-/// What is known of the units that stand in a block, as sets of their numbers. Each is exactly the set of the units for which it is true.
+/// What is known of the units of a block, as sets of their numbers. Each is exactly the set of the units for which it is true.
 #[derive(Drop)]
 pub(crate) struct Sets {
-    /// Those that stand here.
+    /// The units of the block.
     pub(crate) here: UnitSet,
     /// Switches and modules that hold a reply to send.
     pub(crate) holds_replies: UnitSet,
@@ -31,7 +31,7 @@ pub(crate) struct Sets {
 }
 
 impl Sets {
-    /// No unit stands there.
+    /// The sets of a block without units.
     pub(crate) fn empty() -> Sets
         ensures { (k : ℕ) → facts_at result k ≡ no_facts }
     {
@@ -51,7 +51,7 @@ impl Sets {
         }
     }
 
-    /// A unit stands here from now on. What is true of it is noted then.
+    /// Adds a unit to the block. What is true of it is noted afterwards.
     pub(crate) fn add_unit(&mut self, unit: UnitNumber)
         ensures { AreNoted unit (λ _. record no_facts { here = true }) self.old self.new }
     {
@@ -59,7 +59,7 @@ impl Sets {
         self.here.insert(unit);
     }
 
-    /// A switch stands here from now on, and what is true of it is noted.
+    /// Adds a switch to the block, and notes what is true of it.
     pub(crate) fn add_switch(&mut self, unit: UnitNumber, switch: &Switch)
         ensures { AreNoted unit (λ _. switch_facts (Some switch.now)) self.old self.new }
     {
@@ -68,7 +68,7 @@ impl Sets {
         self.note_switch_took_replies(unit, switch);
     }
 
-    /// A module stands here from now on, and what is true of it is noted.
+    /// Adds a module to the block, and notes what is true of it.
     pub(crate) fn add_module(&mut self, unit: UnitNumber, memory_module: &Module)
         ensures { AreNoted unit (λ _. module_facts (Some memory_module.now)) self.old self.new }
     {
@@ -78,7 +78,7 @@ impl Sets {
         self.note_module_took_request(unit, memory_module);
     }
 
-    /// A processing element stands here from now on, and what is true of it is noted.
+    /// Adds a processing element to the block, and notes what is true of it.
     pub(crate) fn add_element(&mut self, unit: UnitNumber, element: &ProcessingElement)
         ensures { AreNoted unit (λ _. element_facts (Some element.now)) self.old self.new }
     {
@@ -87,7 +87,7 @@ impl Sets {
         self.running.insert_if(unit, !element.has_stopped());
     }
 
-    /// A unit doesn't stand here any more.
+    /// Removes a unit from the block.
     pub(crate) fn remove_unit(&mut self, unit: UnitNumber)
         ensures { AreNoted unit (λ _. no_facts) self.old self.new }
     {
@@ -102,7 +102,7 @@ impl Sets {
         self.keeps_records.remove(unit);
     }
 
-    /// Notes what is true of the replies of a switch that stands here, once replies have left it.
+    /// Notes what is true of the replies of a switch of the block, once replies have left it.
     #[inline(always)]
     pub(crate) fn note_switch_sent_replies(&mut self, unit: UnitNumber, switch: &Switch)
         ensures { AreNoted unit (replies_noted ◌&&◌ switch.now) self.old self.new }
@@ -113,7 +113,7 @@ impl Sets {
         self.no_reply_room.remove_unless(unit, is_full);
     }
 
-    /// Notes what is true of the requests of a switch that stands here, once requests have left it.
+    /// Notes what is true of the requests of a switch of the block, once requests have left it.
     #[inline(always)]
     pub(crate) fn note_switch_sent_requests(&mut self, unit: UnitNumber, switch: &Switch)
         ensures { AreNoted unit (requests_noted ◌&&◌ switch.now) self.old self.new }
@@ -125,7 +125,7 @@ impl Sets {
         self.no_request_room.one.remove_unless(unit, !room.one);
     }
 
-    /// Notes what is true of a switch that stands here, once replies have come to it. It keeps no record that it didn't keep before.
+    /// Notes what is true of a switch of the block, once replies have come to it. It keeps no record that it didn't keep before.
     #[inline(always)]
     pub(crate) fn note_switch_took_replies(&mut self, unit: UnitNumber, switch: &Switch)
         ensures { AreNoted unit (λ f. record (replies_noted ◌||◌ switch.now f) { keeps_records = f.keeps_records && keeps_records switch.now }) self.old self.new }
@@ -140,7 +140,7 @@ impl Sets {
         }
     }
 
-    /// Notes what is true of a switch that stands here, once requests have come to it. Unless its records `may_differ`, they are noted already.
+    /// Notes what is true of a switch of the block, once requests have come to it. Unless its records `may_differ`, they are noted already.
     #[inline(always)]
     pub(crate) fn note_switch_took_requests(
         &mut self,
@@ -161,7 +161,7 @@ impl Sets {
         }
     }
 
-    /// Notes what is true of a module that stands here, once a request has come to it.
+    /// Notes what is true of a module of the block, once a request has come to it.
     #[inline(always)]
     pub(crate) fn note_module_took_request(&mut self, unit: UnitNumber, memory_module: &Module)
         ensures { AreNoted unit (request_noted ◌||◌ memory_module.now) self.old self.new }
@@ -172,7 +172,7 @@ impl Sets {
         self.to_serve.insert_if(unit, holds_request && !modules::holds_reply(memory_module));
     }
 
-    /// Notes what is true of a module that stands here, once it has served.
+    /// Notes what is true of a module of the block, once it has served.
     #[inline(always)]
     pub(crate) fn note_module_served(&mut self, unit: UnitNumber, memory_module: &Module)
         ensures { AreNoted unit (λ f. record (request_noted ◌&&◌ memory_module.now f) { holds_replies = f.holds_replies || is_some memory_module.now.out }) self.old self.new }
@@ -186,7 +186,7 @@ impl Sets {
             .remove_unless(unit, holds_request && !holds_reply);
     }
 
-    /// Notes what is true of a module that stands here, once a reply has left it.
+    /// Notes what is true of a module of the block, once a reply has left it.
     #[inline(always)]
     pub(crate) fn note_module_sent_reply(&mut self, unit: UnitNumber, memory_module: &Module)
         ensures { AreNoted unit (λ f. record f { holds_replies = f.holds_replies && is_some memory_module.now.out; to_serve = f.to_serve || would_serve memory_module.now }) self.old self.new }

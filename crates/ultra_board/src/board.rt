@@ -47,7 +47,7 @@ impl Model for Board {
 }
 
 impl Board {
-    /// A board of the numbers below `limit`, at most 1,000,000, with at most `bound` passes held at once, from 1 to 64, and its first seat, which counts for `seats` places, from 1 to 64.
+    /// A board of the numbers below `limit`, and its first seat. `limit` is at most 1,000,000. `bound`, from 1 to 64, is the maximum number of passes held at once. The seat counts for `seats` places, from 1 to 64.
     ///
     /// `BadLimit` is found before memory is asked for. `NoMemory` comes only where the memory for the words was refused.
     pub fn open(

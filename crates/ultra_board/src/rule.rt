@@ -19,7 +19,7 @@ pub struct Limits {
     pub seats: u64,
 }
 
-/// What a seat knows. It stands in contracts alone: no value of it is made, and no word of the program holds its counts.
+/// What a seat knows. It is only in contracts: no value of it is made, and no word of the program holds its counts.
 pub struct View {
     /// The numbers drawn, in their order.
     pub drawn: LinkedList<u64>,

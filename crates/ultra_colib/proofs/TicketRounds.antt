@@ -172,7 +172,7 @@ module _ (rounds : ℕ) (some : 1 ≤ rounds) (few : rounds ≤ 1000) (c : Setti
     has_ticket : (p : ℕ) → p < size c → HasDrawn rounds s p → Has (slice_index_or holds.phases p none) (slice_index (core_at s p).registers 1)
     has_ticket p below has_p = has _ _ _ _ _ _ (holds.each p below).local has_p.0 has_p.1
 
-    -- who stands just behind a draw
+    -- who is just behind a draw
     behind : (p : ℕ) → p < size c → (core_at s p).pc ≡ 3 → Has (slice_index_or holds.phases p none) (slice_index (core_at s p).registers 1) × (slice_index (core_at s p).registers 5 + drawn (slice_index_or holds.phases p none) ≡ rounds + 1)
     behind p below at_three =
         let here = (holds.each p below).local in

@@ -6,8 +6,8 @@ use Rattle.ultra_isa.specs.declared.Instr.TheVariants.{Set, Add, AddWord, Subtra
 use Rattle.ultra_colib.specs.Schedules.{CellWords, IsKeptBySchedules}
 
 -- cells 0 and 1 are the upper and the lower count of items, 2 and 3 the insert and the delete
--- index; 8 + i is the turn word of place i, 8 + 2 ^ z + i its data; the results stand from 8 + 2 *
--- 2 ^ z on
+-- index; 8 + i is the turn word of place i, 8 + 2 ^ z + i its data; the results are in the cells
+-- from 8 + 2 * 2 ^ z on
 abbrev pub queue : ℕ → ℕ → List Instr
 queue z rounds =
     Number 1 ∷ AddWord 1 1 1 ∷ Size 2 ∷ Set 3 1 ∷ Set 4 (2 ^ z) ∷ Set 5 rounds ∷ Set 15 4294967295
@@ -41,7 +41,7 @@ pub record IsInserted (z rounds size : ℕ) (word : CellWords) (v : ℕ) : Type 
   pub value : v ≡ element + 1 + its_round * size
   pub has_begun : (i : ℕ) → i < its_round → result z word (element + i * size) ≢ 0
 
--- the results that aren't 0 are pairwise different inserted values, each by a ticket of its own
+-- the results that aren't 0 are pairwise different inserted values, each with its own ticket,
 -- which was drawn from both indexes
 pub record AreItemsOnce (z rounds size : ℕ) (word : CellWords) : Type 0 where
   pub different : (k l : ℕ) → k ≢ l → result z word k ≢ 0 → result z word k ≢ result z word l

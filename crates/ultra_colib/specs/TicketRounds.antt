@@ -1,4 +1,4 @@
--- a counter from which each processing element draws tickets, one after another
+-- a counter from which each processing element draws a ticket in each round
 use Rattle.std.specs.Prelude.{All, ◌≡◌, ◌≢◌, ℕ, ◌<◌, ◌≤◌, ◌*◌, List, [], ◌∷◌, slice_index}
 use Rattle.ultra_isa.specs.declared.Instr.{Instr}
 use Rattle.ultra_isa.specs.declared.Instr.TheVariants.{Set, Subtract, JumpIfNotZero, Faa, Fence, Halt}
@@ -15,7 +15,7 @@ ticket_rounds rounds =
     ∷ Faa 1 0 2 ∷ Fence ∷ Subtract 5 5 2 ∷ JumpIfNotZero 5 2 ∷ Halt ∷ []
 
 -- a processing element has a ticket from its first draw on: it has come as far as the draw, which
--- is the instruction at 2, and where it stands before a draw it has fewer than all rounds left
+-- is the instruction at 2, and if it is at 2 it has fewer than all rounds left
 abbrev pub HasDrawn : ℕ → Para → ℕ → Type 0
 HasDrawn rounds s p =
     (2 ≤ (core_at s p).pc)
@@ -38,8 +38,8 @@ AreAllDrawn rounds c s =
     ((p : ℕ) → p < size c → (core_at s p).pc ≡ 6) → slice_index s.cells 0 ≡ rounds * size c
 
 -- no ticket is drawn twice, s being a state and t a later one: what one has nobody else has later,
--- and a later draw gives one a greater ticket. Who stands at 3 has just drawn, and register 5 then
--- tells which draw it was
+-- and a later draw gives one a greater ticket. A processing element whose program counter is 3 has
+-- just drawn, and register 5 then says which draw it was
 pub record IsNoTicketTwice (rounds : ℕ) (c : Settings) (s t : Para) : Type 0 where
   pub others : (p q : ℕ) → p < size c → q < size c → p ≢ q → HasDrawn rounds s p
       → HasDrawn rounds t q → ticket_of s p ≢ ticket_of t q

@@ -10,19 +10,20 @@ ghost use Rattle.ultra_colib.specs.ReadersWriters.{ReadersWritersLaw};
 ghost use Rattle.ultra_colib.specs.TicketRounds.{AllDrawnLaw, NextTicketLaw, NoTicketTwiceLaw, TicketRoundsLaw};
 ghost use Rattle.ultra_colib.specs.Tickets.{TicketsLaw};
 
-/// The law of the ticket counter, as this function's contract: for all settings in their ranges without initial values
-/// and every schedule, no two processing elements have taken the same ticket. The function itself does nothing.
+/// The law of the ticket counter, as this function's contract: no two processing elements have
+/// taken the same ticket. It holds for all settings in their ranges without initial values and for
+/// every schedule. The function itself does nothing.
 pub fn tickets_law()
     ensures different { TicketsLaw }
 {}
 
-/// The law of the ticket counter with rounds, as this function's contract: for 1 to 1000 rounds, all
-/// settings in their ranges without initial values and every schedule, no two processing elements
-/// have the same ticket, and cell 0, the next ticket, is greater than each that somebody has. No
-/// ticket is drawn twice: what one processing element has no other has later, and a later draw gives
-/// one a greater ticket. Once all have come to the last instruction, as many tickets have been drawn
-/// as there are processing elements, times the rounds. A processing element has a ticket from its
-/// first draw on. The function itself does nothing.
+/// The law of the ticket counter with rounds, as this function's contract. It holds for 1 to 1000
+/// rounds, all settings in their ranges without initial values and every schedule. No two
+/// processing elements have the same ticket. Cell 0, the next ticket, is greater than each that
+/// somebody has. No ticket is drawn twice: what one processing element has no other has later, and
+/// a later draw gives one a greater ticket. Once all have come to the last instruction, the number
+/// of tickets drawn is the number of processing elements times the rounds. A processing element has
+/// a ticket from its first draw on. The function itself does nothing.
 pub fn ticket_rounds_law()
     ensures different { TicketRoundsLaw }
     ensures none_twice { NoTicketTwiceLaw }
@@ -49,7 +50,7 @@ pub fn barrier_law()
 {}
 
 /// The queue's law, as this function's contract: after every schedule the results that aren't 0 are pairwise different
-/// inserted values. Each came by a ticket of its own, which was drawn from both indexes. A program that only stores such
+/// inserted values. Each has its own ticket, which was drawn from both indexes. A program that only stores such
 /// numbers doesn't keep the law. The function itself does nothing.
 pub fn queue_law()
     ensures kept { QueueLaw }

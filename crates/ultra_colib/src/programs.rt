@@ -97,7 +97,7 @@ pub fn barrier_program(alloc: Global, rounds: u32) -> Result<Program, ColibFault
 
 /// The queue with `2^log_size` places, `log_size` being 0 to 6: each processing element inserts an item and deletes one, `rounds` times, 1 to 1000.
 ///
-/// Cells 0 and 1 are the upper and the lower count of items, cells 2 and 3 the insert index and the delete index. With Z places, cell `8 + i` is the turn word of place i, cell `8 + Z + i` its data, and the results stand from cell `8 + 2 * Z` on.
+/// Cells 0 and 1 are the upper and the lower count of items, cells 2 and 3 the insert index and the delete index. With Z places, cell `8 + i` is the turn word of place i, and cell `8 + Z + i` its data. The results are in the cells from `8 + 2 * Z` on.
 pub fn queue_program(alloc: Global, log_size: u32, rounds: u32) -> Result<Program, ColibFault>
     ensures program { IfOk result (λ p. p ≡ queue log_size rounds) }
     ensures text { IfOk result (IsProgramText (text_of_queue log_size rounds)) }
@@ -116,7 +116,7 @@ pub fn queue_program(alloc: Global, log_size: u32, rounds: u32) -> Result<Progra
 
 /// The ticket counter, from which each processing element draws a ticket `rounds` times, 1 to 1000.
 ///
-/// Cell 0 is the number of tickets drawn. A ticket is the old value of cell 0, and stands in
+/// Cell 0 is the number of tickets drawn. A ticket is the old value of cell 0, and is in
 /// register 1 until the next one is drawn.
 pub fn tickets_program(alloc: Global, rounds: u32) -> Result<Program, ColibFault>
     ensures program { IfOk result (λ p. p ≡ ticket_rounds rounds) }

@@ -54,7 +54,7 @@ pub fn run_gate(
     Ok(run(alloc, config, &program, schedule)?)
 }
 
-/// The readers and writers on a paracomputer with these settings, all of whose cells are 0 at first, after a schedule: each number is the processing element that makes the step.
+/// The readers and writers on a paracomputer with these settings, after a schedule. All cells are 0 at first. Each number of the schedule is the processing element that makes the step.
 ///
 /// Where a writer is inside, nobody else is. `BadParameter` means that a parameter is out of its range or that cells have initial values.
 pub fn run_rw(
@@ -97,9 +97,9 @@ pub fn run_barrier(
     Ok(run(alloc, config, &program, schedule)?)
 }
 
-/// The queue with `2^log_size` places on a paracomputer with these settings, all of whose cells are 0 at first, after a schedule: each number is the processing element that makes the step.
+/// The queue with `2^log_size` places on a paracomputer with these settings, after a schedule. All cells are 0 at first. Each number of the schedule is the processing element that makes the step.
 ///
-/// The results that aren't 0 are pairwise different inserted values, each by a ticket of its own. `BadParameter` means that a parameter is out of its range or that cells have initial values.
+/// The results that aren't 0 are pairwise different inserted values, each with its own ticket. `BadParameter` means that a parameter is out of its range or that cells have initial values.
 pub fn run_queue(
     alloc: Global,
     config: &Config,

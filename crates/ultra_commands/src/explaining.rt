@@ -65,7 +65,7 @@ pub(crate) fn explain<'p, F: Source, O: Sink>(
     explain_run(alloc, config, program, heap_bytes, out)
 }
 
-/// Writes the lines of a run, with the trees in a heap of their own.
+/// Writes the lines of a run. The trees have their own heap.
 fn explain_run<'p, O: Sink>(
     alloc: Global,
     config: &Config,

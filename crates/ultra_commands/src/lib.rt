@@ -40,13 +40,14 @@ use ultra_io::Source;
 use ultra_msg::{Sink, write_all};
 use ultra_sweep_command::{SweepPlan, sweep};
 
-/// Does what the words ask for, and answers the status that the program ends with: 0 done, 1 a list
-/// that isn't a serial order or a program that isn't careful, 2 a usage fault, 3 refused input, 4 no
-/// memory, no thread or a full heap, 5 a failed write.
+/// Does what the arguments in `words` ask for, and returns the exit status. 0 is done; 1 is a list
+/// that isn't a serial order or a program that isn't careful. 2 is a usage fault, 3 refused input,
+/// 4 no memory, no thread or a full heap, and 5 a failed write.
 ///
-/// The first word is the program's name. Results, help and the version go to `out`; what is wrong
-/// goes to `err`. `clap` lays out the texts of help, of the version and of usage faults, and tests
-/// show them. A sweep and a run by several workers start threads, and the call may wait for them.
+/// The first of `words` is the program's name. Results, help and the version go to `out`; what is
+/// wrong goes to `err`. `clap` lays out the texts of help, of the version and of usage faults, and
+/// tests show them. A sweep and a run by several workers start threads, and the call may wait for
+/// them.
 pub fn main_with<'w, R: AllocGlobal + Threads + Wait + Sync, F: Source, O: Sink, E: Sink>(
     rt: &R,
     words: &'w [&'w str],

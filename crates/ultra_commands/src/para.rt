@@ -80,9 +80,9 @@ impl RunOutput for SeededRun {
     }
 }
 
-/// Reads settings and a program, and a schedule where its path is given, runs the paracomputer by the
-/// schedule, and writes to `out` what its steps did, and how it ended. Each file is accepted before
-/// the next is read, and all before a byte is written.
+/// Reads settings and a program, and a schedule where its path is given. Runs the paracomputer by
+/// the schedule, and writes to `out` what its steps did, and how it ended. Each file is accepted
+/// before the next is read, and all before a byte is written.
 ///
 /// An error says what failed. `out` has then taken a prefix of the text, and nothing where a file was
 /// refused.

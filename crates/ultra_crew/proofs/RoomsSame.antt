@@ -1,4 +1,4 @@
--- The messages that leave go by what the rooms say of a machine's units, and by nothing else.
+-- The messages that leave depend on what the rooms say of a machine's units, and on nothing else.
 use Rattle.std.proofs.lemmas.Grind.{common_steps}
 use Rattle.std.proofs.Common.{◌≡◌, ℕ, zero, suc, ◌-◌, ◌/◌, ◌^◌, ◌<◌, ◌≤◌, List, false, Option, Some, None, refl, sym, ◌∙◌, ap, arith, ◌==◌, not}
 use Rattle.std.proofs.lemmas.Bool.Decides.{nat_tests}

@@ -21,7 +21,7 @@ unit_behind Requests d l = elim (nat_lt l (d * 2 ^ d)) [
   | false ↦ switch_number d 0 (shuffled d (l - d * 2 ^ d) / 2)
 ]
 
--- what block k has on its links, if it has on each link that leads to a unit of its own what any
+-- what block k has on its links, if it has on each link that leads to one of its units what any
 -- block had, and nothing else
 abbrev pub at_home : {M : Type 0} → ℕ → List ℕ → (ℕ → ℕ) → (ℕ → List (Option M)) → ℕ
     → List (Option M)

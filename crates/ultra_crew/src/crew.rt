@@ -32,11 +32,11 @@ pub fn cycle_alone(blocks: &mut Blocks)
 pub struct Crew;
 
 impl Crew {
-    /// The machine makes one cycle, each half of it by n workers, 1 to 64. The partition stays as it is, and the machine after the cycle is the same for every partition, every number of workers and every gate. Of several workers each has a thread of its own, and the one of number `b` modulo the number of workers calls the gate and then makes the half for block `b`. One worker is the caller's thread, and calls no gate.
+    /// The machine makes one cycle, each half of it by n workers, 1 to 64. The partition stays as it is, and the machine after the cycle is the same for every partition, every number of workers and every gate. Each of several workers has its own thread. The one whose number is `b` modulo the number of workers calls the gate and then makes the half for block `b`. A single worker is the caller's thread, and calls no gate.
     ///
     /// The machine's count of cycles has to be below `2^32 - 1`. The call may wait. On every return path the threads that were started are joined.
     ///
-    /// `NoThread` says that a thread could not be started or was gone, `NoMemory` that memory was refused; the blocks are then given up. With one worker the call succeeds.
+    /// `NoThread` says that a thread could not be started or died before finishing, `NoMemory` that memory was refused; the blocks are then given up. With one worker the call succeeds.
     #[tactic(auto, using(crate::proofs::Counted::one_on))]
     pub fn cycle<R: Threads + Wait + Sync, G: Gate + Sync>(
         rt: &R,
@@ -58,7 +58,7 @@ impl Crew {
     ///
     /// The machine's count of cycles has to be below `2^32` after these too. The call may wait. On every return path the threads that were started are joined.
     ///
-    /// `NoThread` says that a thread could not be started or was gone, `NoMemory` that memory was refused; the blocks are then given up.
+    /// `NoThread` says that a thread could not be started or died before finishing, `NoMemory` that memory was refused; the blocks are then given up.
     pub fn cycles<R: Threads + Wait + Sync, G: Gate + Sync>(
         rt: &R,
         alloc: Global,
@@ -104,7 +104,7 @@ fn count_busy(blocks: Blocks, workers: usize) -> (Blocks, usize)
     (Blocks::of_parts(parts), busy)
 }
 
-/// The machine makes n cycles, whose halves are made by workers in threads of their own, which are started here and joined at the end. Each of these workers that has a block gets a thread.
+/// The machine makes n cycles, whose halves are made by workers in their own threads. The threads are started here and joined at the end. Each of these workers that has a block gets a thread.
 fn cycles_together<J: ExpectedResults + Send, R: Threads + Wait + Sync, G: Gate + Sync>(
     rt: &R,
     alloc: Global,

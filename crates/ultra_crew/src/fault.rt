@@ -7,7 +7,7 @@ use thiserror::Error;
 /// Why a cycle was not made. The machine's blocks are then given up.
 #[derive(Clone, Copy, PartialEq, Eq, Debug, Drop, Error)]
 pub enum CrewFault {
-    /// A thread could not be started, or was gone before it had given all results back.
+    /// A thread could not be started, or died before it had given all results back.
     #[error("no thread")]
     NoThread,
     /// Memory was refused.

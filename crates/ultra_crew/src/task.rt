@@ -7,7 +7,7 @@ use crate::gate::Gate;
 use std::sync::Wait;
 use ultra_block_core::{Block, Half, Rooms};
 
-/// A cycle, a half and a worker: the name of what goes to the worker, and of what comes back.
+/// A cycle, a half and a worker: the name of what is sent to the worker, and of the result.
 #[derive(Clone, Copy, PartialEq, Eq, Drop)]
 pub struct AssignmentName {
     /// The cycle, counted from 0.

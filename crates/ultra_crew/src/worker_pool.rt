@@ -27,7 +27,7 @@ use ultra_block_core::{Block, Half, Rooms};
 use ultra_model::Config;
 use ultra_partition::{MessageKind, note_rooms};
 
-/// Host workers at work, each in a thread of its own that is kept until the pool is stopped. Contracts see how many they are.
+/// Host workers at work. Each has its own thread, which is kept until the pool is stopped. In contracts a pool is the number of its workers.
 #[derive(Drop)]
 pub struct WorkerPool<J: ExpectedResults> {
     threads: Vec<WorkerThread<J>>,
@@ -173,7 +173,7 @@ impl<J: ExpectedResults> WorkerPool<J> {
         Ok(blocks)
     }
 
-    /// Every block makes these two halves of the cycle, one after the other, as by `make_half`; but the blocks are dealt once.
+    /// Every block makes these two halves of the cycle in order, as by `make_half`; but the blocks are dealt once.
     fn make_two_halves<R: Wait>(
         &self,
         rt: &R,

@@ -4,9 +4,9 @@
 
 ghost use Rattle.ultra_cycle_law.specs.Law.{CycleLaw};
 
-/// The law of a cycle, as this function's contract: where the machine is between two cycles, the six
-/// halves make up one cycle of the definition, the conditions of each half are met, and the machine
-/// after them is again between two cycles. The function itself does nothing.
+/// The law of a cycle, as this function's contract, for a machine that is between two cycles. The
+/// six halves make up one cycle of the definition, and the conditions of each half are met. After
+/// them the machine is again between two cycles. The function itself does nothing.
 pub fn cycle_law()
     ensures made { CycleLaw }
 {}

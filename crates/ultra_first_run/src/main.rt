@@ -1,5 +1,5 @@
-//! The program `ultra_first_run`: what `ultra run CONF PROG` does, and nothing else. It stands on far
-//! fewer crates than `ultra`, so a fresh machine has it sooner.
+//! The program `ultra_first_run`: what `ultra run CONF PROG` does, and nothing else. It depends on
+//! far fewer crates than `ultra`, so a fresh machine has it sooner.
 #![tactic(auto)]
 
 ghost use Rattle.std.specs.Prelude.{◌≡◌, ◌≢◌, ◌+◌, ◌++◌, IfErr, IfOk, List, OnErr, OnOk, map, string_bytes, ℕ};
@@ -71,9 +71,9 @@ fn show_usage<E: Sink>(err: &mut E) -> u8
     2
 }
 
-/// Runs what the two words after the program's name name, and answers the status that the program
-/// ends with: 0 done, 2 a usage fault, 3 refused input, 4 no memory, 5 a failed write. What is wrong
-/// goes to `err`.
+/// Runs a program with settings: the two arguments after this program's name are the path of the
+/// settings and that of the program. Returns the exit status: 0 done, 2 a usage fault, 3 refused
+/// input, 4 no memory, 5 a failed write. Writes what is wrong to `err`.
 fn run_words<F: Source, O: Sink, E: Sink>(
     alloc: Global,
     words: &[String],

@@ -1,4 +1,4 @@
-//! The units of one kind that are in a set, one after another.
+//! The units of one kind that are in a set, in ascending order.
 
 ghost use Rattle.std.specs.Prelude.{◌≡◌, ◌+◌, ◌-◌, ◌^◌, ◌<◌, ◌≤◌, [], ◌∷◌, true, false, nat_lt, ◌&&◌};
 ghost use Rattle.std.specs.Iterator.{YieldsFirst, item_count};
@@ -150,7 +150,7 @@ fn numbered_from<const SMALL: bool>(units: &UnitSet, base: usize, count: usize) 
     }
 }
 
-/// Those of `count` units from a number on that are in a set and in the same word: bit i says it of the unit whose number is greater by i.
+/// Of the `count` units from number `from` on, those that are in a set and in the same word as `from`. Bit i says it of unit `from + i`.
 #[inline(always)]
 fn bits_below<const SMALL: bool>(units: &UnitSet, from: usize, count: usize) -> u64
     requires small { SMALL ≡ true → count < 64 }

@@ -3,10 +3,11 @@
 
 ghost use Rattle.ultra_hot_spot.specs.AllAtOnce.{HotCellLaw};
 
-/// The law of a hot cell, as this function's contract: whenever all queues, wait buffers and modules
-/// are empty and each processing element has one request that is not yet in the network, all for
-/// one cell, the memory serves them as one. With d stages and the cycles counted from there, the
-/// one act on the cell is in cycle d + 1, and every processing element is answered in cycle 2d + 2.
+/// The law of a hot cell, as this function's contract. Suppose that at some time all queues, wait
+/// buffers and modules are empty. Suppose also that each processing element has one request that is
+/// not yet in the network, and that all are for one cell. Then the memory serves them as one. With
+/// d stages and the cycles counted from that time, the one act on the cell is in cycle d + 1. Every
+/// processing element is answered in cycle 2d + 2.
 ///
 /// It holds for all settings in their ranges with a place in each wait buffer, and for every
 /// program: what the processing elements issue meanwhile comes behind these requests. That requests

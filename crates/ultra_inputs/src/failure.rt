@@ -90,9 +90,9 @@ impl<'a> From<AllocError> for Failure<'a> {
 }
 
 impl Failure<'_> {
-    /// The status that the program ends with: 1 for a list that isn't legal and a program that isn't
-    /// careful, 2 for a usage fault, 3 for refused input, 4 where memory or a thread was refused or
-    /// the heap is full, 5 where standard output failed.
+    /// The exit status of the program. It is 1 for a list that isn't legal and a program that isn't
+    /// careful, 2 for a usage fault, and 3 for refused input. It is 4 where memory or a thread was
+    /// refused or the heap is full, and 5 where standard output failed.
     pub fn status(&self) -> u8
         ensures { result ≡ status_of self.now }
     {

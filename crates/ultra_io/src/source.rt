@@ -27,7 +27,7 @@ pub trait Source {
     /// The files that it has read, in their order.
     ghost files: { Self → List File };
 
-    /// How often it has failed.
+    /// The number of its failures.
     ghost failures: { Self → ℕ };
 
     /// Reads all bytes of the file at a path. `NotRead` says that the source failed in this call,
@@ -88,7 +88,8 @@ impl<R: Files> Source for FileSource<'_, R> {
     }
 }
 
-/// What an error of this kind is for a source: want of memory is no failure of its own.
+/// What an error of this kind is for a source. Where memory was refused, the source itself hasn't
+/// failed.
 fn fault_of(kind: ErrorKind) -> SourceFault
     ensures { (result ≡ SourceFault.NoMemory) ↔ (kind ≡ ErrorKind.OutOfMemory) }
 {

@@ -13,7 +13,7 @@ pub const PART_BYTES: usize = 128;
 ///
 /// The buffer remembers the sink's first fault: the sink has then taken a prefix of the text, and gets nothing more. A buffer takes no memory.
 ///
-/// A line is written part by part: [`begin`](TextBuffer::begin) gives the position where it begins, [`write`](TextBuffer::write) and its like take the position where it goes on and give the one behind what they wrote, and [`end`](TextBuffer::end) takes the position where it ends. Between its parts [`make_room`](TextBuffer::make_room) sees that the next one fits.
+/// A line is written part by part. [`begin`](TextBuffer::begin) gives the position where it begins. [`write`](TextBuffer::write) and its like take the position where it goes on, and give the one behind what they wrote. [`end`](TextBuffer::end) takes the position where it ends. Between its parts [`make_room`](TextBuffer::make_room) ensures that the next one fits.
 #[derive(Drop)]
 pub struct TextBuffer<'s, S: Sink> {
     sink: &'s mut S,

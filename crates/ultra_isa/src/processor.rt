@@ -92,7 +92,7 @@ impl Processor {
         }
     }
 
-    /// Does one step: the instruction at the program counter, or a stall, or nothing where the processing element has halted or faulted. A request that it issues stands last in its interface.
+    /// Does one step: the instruction at the program counter, or a stall, or nothing where the processing element has halted or faulted. A request that it issues is then the last in its interface.
     #[inline(always)]
     pub fn step(&mut self, program: &Program, interface: &mut Pni) -> Step
         ensures core { self.new ≡ record self.old { core = (step_of self.old.site interface.old.most_open program.now self.old.core interface.old.interface).core } }
@@ -254,7 +254,7 @@ impl Processor {
         }
     }
 
-    /// The effect that refers to the cell whose address is in the register `a`, of an instruction that names `d` and `b` too, or `None` where one of the three is awaited.
+    /// The effect that refers to the cell whose address is in the register `a`. The instruction names the registers `d` and `b` too. `None` says that one of the three is awaited.
     #[inline(always)]
     fn reference(
         &self,

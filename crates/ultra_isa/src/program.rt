@@ -63,7 +63,7 @@ impl Program {
         }
     }
 
-    /// A copy of the program in memory of its own. An error says that the memory was refused.
+    /// A copy of the program in its own memory. An error says that the memory was refused.
     pub fn try_clone(&self, alloc: Global) -> Result<Program, AllocError>
         ensures { IfOk result (λ p. p ≡ self.now) }
     {

@@ -29,7 +29,7 @@ parts_false : (a b : Bool) → (a || b) ≡ false → (a ≡ false) × (b ≡ fa
 parts_false true b h = cc
 parts_false false b h = (refl, h)
 
--- ---- the latest issue of a processing element is the latest of its own
+-- ---- the latest issue of a processing element is the latest among its own issues
 module _ (p a : ℕ) where
   latest_own : (is : List LoggedIssue) (d : LoggedIssue) → latest_among p a is d ≡ latest_among p a (own p is) d
   latest_own [] d = refl

@@ -1,4 +1,4 @@
--- events of processing elements by number, each of which changes the row of its own alone
+-- events of processing elements by number, each of which changes only its processing element's row
 use Rattle.std.proofs.Common.{ℕ, zero, suc, List, [], ◌∷◌, ◌++◌, ◌≡◌, ◌≢◌, ◌+◌, ◌<◌, ◌≤◌, ◌⊎◌, inl, inr, length, refl, sym, ap, ◌∙◌, subst, get_or-set_same, get_or-set_other, length-set, arith}
 use Rattle.std.proofs.lemmas.Bool.{cases_lt}
 use Rattle.std.specs.Prelude.{Option, Some, None, map, slice_set}
@@ -59,7 +59,7 @@ module _ (cycle : ℕ) (event : ℕ → Option Event) (change : ℕ → List Ope
         outside n (a + 1) a (rows_with cycle rows e) (omega arith) (inl (omega arith)) ∙ ap (λ r. row r a) (own a (omega arith) e is rows) ∙ get_or-set_same rows a (change a (row rows a)) [] (omega arith)))
   ]
 
-  -- ---- each finds its place, where the row of its own lets it
+  -- ---- each finds its place, where its processing element's row lets it
   module _ (Fits : ℕ → List OpenRequest → Type 0) (fits : (p : ℕ) → p < bound → (e : Event) → event p ≡ Some e → (rows : List (List OpenRequest)) → p < length rows → Fits p (row rows p) → HasPlace rows e) where
     places_first : (rows : List (List OpenRequest)) (os : List (Option Event)) (o : Option Event) → (o ≡ None → HavePlaces cycle rows (present os))
         → ((e : Event) → o ≡ Some e → HasPlace rows e × HavePlaces cycle (rows_with cycle rows e) (present os))

@@ -25,7 +25,7 @@ use Rattle.ultra_latency.proofs.Deliveries.{left_out, left_open, length_rows, ro
 use Rattle.ultra_latency.proofs.OwnIssues.{next_number, sent_own, step_sends}
 use Rattle.ultra_latency.proofs.Issues.{put_in, put_new}
 
--- ---- one event, and the row of its own
+-- ---- one event, and its processing element's row
 delivered_own : (cycle p : ℕ) (o : Option ReplyMessage) → IfSome o (λ (r : ReplyMessage). r.pe ≡ p) → (e : Event) → delivery o ≡ Some e → (rows : List (List OpenRequest)) → rows_with cycle rows e ≡ slice_set rows p (left_out o (row rows p))
 delivered_own cycle p None own e is rows = cc
 delivered_own cycle p (Some r) own e is rows =

@@ -16,7 +16,7 @@ use ultra_msg::{Event, Pe};
 use ultra_switch::{ToMm, ToPe};
 use ultra_unit_steps::ProcessingElement;
 
-/// A machine: its settings, its program, and its units as they stand after some cycles.
+/// A machine: its settings, its program, and its units as they are after some cycles.
 ///
 /// All units are in one block. `into_blocks` cuts the machine otherwise.
 #[derive(Drop)]
@@ -35,7 +35,7 @@ impl Model for Machine {
 impl Machine {
     /// The machine of these settings and this program before its first cycle: all registers and cells are 0 but for the initial ones, and nothing is on its way.
     ///
-    /// It keeps copies of its own. An error says that memory was refused.
+    /// It keeps its own copies. An error says that memory was refused.
     pub fn new(alloc: Global, config: &Config, program: &Program) -> Result<Machine, AllocError>
         ensures { IfOk result (λ m. m ≡ record { settings = config.now; program = program.now; state = start config.now }) }
     {

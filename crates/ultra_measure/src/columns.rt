@@ -67,9 +67,9 @@ pub(crate) enum Value {
     Ended(bool),
 }
 
-/// Writes the measures of a window. The machine is as after its last cycle, `to` is the number of
-/// the next one, and `ended` says whether the run was quiet at its end, where it ended with the
-/// window.
+/// Writes the measures of a window. The machine is as after the window's last cycle, and `to` is
+/// the number of the next one. Where the run ended with the window, `ended` says whether it was
+/// quiet at its end.
 pub(crate) fn put_row<S: Sink>(
     buffer: &mut TextBuffer<'_, S>,
     form: Form,
@@ -178,7 +178,7 @@ fn put_events<S: Sink>(
     put_column(buffer, form, b"latency_mean", None, mean_value(latencies));
 }
 
-/// Writes what the processing elements did, and what stood in registers and interfaces.
+/// Writes what the processing elements did, and what was in registers and interfaces.
 fn put_states<S: Sink>(
     buffer: &mut TextBuffer<'_, S>,
     form: Form,

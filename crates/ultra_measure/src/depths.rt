@@ -13,8 +13,8 @@ use crate::queues::{Depth, depth_of_stage, net_of};
 use ultra_block::{Blocks, Held};
 use ultra_topology::{UnitSet, is_small};
 
-/// Of what the stages hold of a kind, by stage: the sums over cycles, the most of one queue or wait
-/// buffer, and the sums of the wait buffers that are full.
+/// What the stages hold of a kind, by stage: the sums over cycles, and the most of one queue or
+/// wait buffer. Also the sums of the wait buffers that are full.
 #[derive(Clone, Copy, Drop)]
 pub(crate) struct Depths {
     /// The sums.
@@ -57,8 +57,8 @@ impl Depths {
         self.note_stages(blocks, held, holders);
     }
 
-    /// What each stage holds of a kind in one state of a machine comes to the rest. `holders` are
-    /// the units that hold it. Each kind has a copy of its own, which asks no switch for the kind.
+    /// Adds what each stage holds of a kind in one state of a machine. `holders` are the units that
+    /// hold it. Each kind has its own specialised copy, which asks no switch for the kind.
     #[inline(always)]
     fn note_stages(&mut self, blocks: &Blocks, held: Held, holders: &UnitSet)
         requires holders { AreUnitsWith blocks.now held holders.now }

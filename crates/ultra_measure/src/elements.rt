@@ -11,8 +11,8 @@ ghost use Rattle.ultra_measure.specs.Window.{greatest};
 use ultra_block::Blocks;
 
 /// How many processing elements run, how many of these would stall next, and how many cells are
-/// open, over all of them; and the same of the requests that aren't in the network yet, and the
-/// most that one has.
+/// open, over all of them. Also how many requests aren't in the network yet, over all of them, and
+/// the most that one has.
 #[derive(Clone, Copy, Drop)]
 pub(crate) struct ElementsNow {
     /// Neither halted nor faulted.

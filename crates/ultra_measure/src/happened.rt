@@ -11,7 +11,7 @@ ghost use Rattle.ultra_measure.specs.Kept.{AreEventSums, IsAfterCycle};
 use ultra_block::Blocks;
 use ultra_msg::Event;
 
-/// One more at a place, if there is such a place.
+/// Adds one to the count at a place, if there is a count at that place.
 fn count_at<const N: usize>(counts: &mut [u64; N], place: u32)
     requires { (k : ℕ) → k < N → slice_index counts.old k + 1 < 2 ^ 64 }
     ensures { (k : ℕ) → k < N → slice_index counts.new k ≡

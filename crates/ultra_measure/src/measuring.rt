@@ -33,7 +33,7 @@ pub enum Layout {
         /// How many cycles a window has, at least 1.
         every: u32,
     },
-    /// The rows of such a table alone, each with the number of a job in front of it.
+    /// Only the rows of a `Table`, each with the number of a job in front of it.
     JobRows {
         /// The number of the job.
         job: u64,
@@ -42,8 +42,8 @@ pub enum Layout {
     },
 }
 
-/// Runs a program on a machine of these settings in the caller's thread, and writes the measures of
-/// the run to the sink; after a fault the sink has taken a prefix of them. What it holds doesn't
+/// Runs a program on a machine of these settings in the caller's thread. Writes the measures of the
+/// run to the sink; after a fault the sink has taken a prefix of them. What it holds doesn't
 /// grow with the number of cycles.
 ///
 /// `Write` says that the sink failed, and `NoMemory` that memory was refused; it is asked for only

@@ -280,7 +280,7 @@ impl Config {
         self.cycles
     }
 
-    /// The cells that are given a value, each by its address; the others hold 0 at first. No address stands twice.
+    /// The cells that are given a value, each by its address; the others hold 0 at first. No address occurs twice.
     pub fn initial(&self) -> &[(Cell, Word)]
         ensures value { result.now ≡ self.now.initial }
         ensures valid { IsValid self.now }
@@ -351,7 +351,7 @@ fn all_cells(stages: u32, cells: u32) -> u32
     Net::new(stages).unwrap().size() * cells
 }
 
-/// The initial cells, if each address is below the bound, has one word and stands once.
+/// The initial cells, if each address is below the bound, has one word and occurs once.
 fn initial_within(
     alloc: Global,
     all_cells: u32,

@@ -200,7 +200,7 @@ pub enum Event {
         /// The cell's value afterwards.
         now: Word,
     },
-    /// A request combined with one that stood in a queue toward memory.
+    /// A request combined with one that was in a queue toward memory.
     Combined {
         /// The stage, from 0 at the PEs' side.
         stage: u32,
@@ -208,11 +208,11 @@ pub enum Event {
         position: u32,
         /// The cell that both are for.
         cell: Cell,
-        /// The PE whose request stood in the queue.
+        /// The PE whose request was in the queue.
         old: Pe,
         /// The PE whose request came to it.
         new: Pe,
-        /// Whether the one that stood in the queue comes first in the serial order.
+        /// Whether the one that was in the queue comes first in the serial order.
         old_first: bool,
     },
     /// A processing element issued a request.
@@ -229,7 +229,7 @@ pub enum Event {
 pub struct Paired {
     /// What is sent for both.
     pub sent: Op,
-    /// How the one that stood in the queue is answered.
+    /// How the one that was in the queue is answered.
     pub give_old: Give,
     /// How the one that came to it is answered.
     pub give_new: Give,
@@ -237,9 +237,9 @@ pub struct Paired {
     pub old_first: bool,
 }
 
-/// What is sent for two requests to one cell, `old` having stood in the queue when `new` came, and how both are answered.
+/// What is sent for two requests to one cell, and how both are answered. `old` was in the queue when `new` came.
 ///
-/// Which pairs combine and how is this project's profile; that the pair acts as its two requests one after the other is the serialization principle of the 1983 paper.
+/// Which pairs combine and how is this project's profile. That the pair acts as its two requests do sequentially is the serialization principle of the 1983 paper.
 pub fn pair(old: Op, new: Op) -> Paired
     ensures table { result ≡ pair_of old new }
     ensures keeps_both { (v : ℕ) → v < 2 ^ 32 → KeepsBoth old new result v }
@@ -276,7 +276,7 @@ pub fn pair(old: Op, new: Op) -> Paired
 impl Give {
     ghost use Rattle.ultra_msg.specs.declared.Op.{Op};
 
-    /// The reply that this makes of the reply to what was sent for both: `Plus` adds its word to a value and leaves an acknowledgement as it is, `Fixed` gives its word and `Ack` an acknowledgement in any case.
+    /// The reply that this makes of the reply to what was sent for both. `Plus` adds its word to a value and leaves an acknowledgement as it is. `Fixed` gives its word and `Ack` an acknowledgement in any case.
     pub fn of(self, reply: Reply) -> Reply
         ensures { result ≡ reply_given self reply }
     {

@@ -4,7 +4,7 @@ ghost use Rattle.ultra_msg.specs.Bytes.{in_a_row, Writes};
 
 use crate::{Sink, SinkFault, write_all};
 
-/// Writes pieces of bytes, one after the other. After a fault the sink has taken a prefix of them.
+/// Writes pieces of bytes in order. After a fault the sink has taken a prefix of them.
 pub fn write_pieces<S: Sink>(sink: &mut S, pieces: &[&[u8]]) -> Result<(), SinkFault>
     ensures { Writes result (in_a_row pieces.now) (S.taken sink.old) (S.taken sink.new) (S.failures sink.old) (S.failures sink.new) }
 {

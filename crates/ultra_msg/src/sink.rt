@@ -12,7 +12,7 @@ pub trait Sink {
     /// The bytes that it has taken.
     ghost taken: { Self → List ℕ };
 
-    /// How often it has failed.
+    /// The number of its failures.
     ghost failures: { Self → ℕ };
 
     /// Takes the first of the bytes, and says how many: from 1 to all of them, or 0 where there are none.

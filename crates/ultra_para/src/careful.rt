@@ -15,7 +15,7 @@ fn refers(instruction: Instr) -> bool
     }
 }
 
-/// Whether a fence stands at a program counter.
+/// Whether the instruction at a program counter is a fence.
 fn is_fence_at(program: &Program, pc: usize) -> bool
     ensures { result ≡ is_some_fence (slice_get program.now pc) }
 {

@@ -69,7 +69,7 @@ fn have_stopped(processors: &[Processor]) -> bool
 impl Para {
     /// The paracomputer of these settings and this program before its first step: all registers and cells are 0 but for the initial ones.
     ///
-    /// It keeps copies of its own. An error says that memory was refused.
+    /// It keeps its own copies. An error says that memory was refused.
     pub fn new(alloc: Global, config: &Config, program: &Program) -> Result<Para, AllocError>
         ensures { IfOk result (λ m. m ≡ record { settings = config.now; program = program.now; state = start_para config.now }) }
     {

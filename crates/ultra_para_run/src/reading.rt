@@ -30,7 +30,7 @@ impl<T: Drop> From<AllocFailed<T>> for ScheduleFault {
 
 /// The schedule that a text writes for a machine of `size` processing elements: their numbers, separated by blanks, tabs, commas and the ends of lines. `#` begins a comment.
 ///
-/// Else the fault names the first line with a bad word; or memory was refused, which may stand in place of another answer.
+/// Else the fault names the first line with a bad word, or says that memory was refused. The latter may replace any other answer.
 pub fn read_schedule(alloc: Global, bytes: &[u8], size: u32) -> Result<Vec<Pe>, ScheduleFault>
     ensures ok { IfOk result (λ v. IsScheduleText size bytes.now v.items) }
     ensures below { IfOk result (λ v. All (λ p. p < size) v.items) }

@@ -20,7 +20,7 @@ use ultra_model::Config;
 use ultra_msg::{Pe, Sink, SinkFault};
 use ultra_trace_alone::RunFault;
 
-/// Runs a program on a paracomputer of these settings along a schedule, and writes the text of the run to a sink: the lines of the steps, unless only the end is asked for, and the lines at the end. After a fault the sink has taken a prefix of it.
+/// Runs a program on a paracomputer of these settings along a schedule, and writes the text of the run to a sink. The text is the lines of the steps, unless only the end is asked for, and the lines at the end. After a fault the sink has taken a prefix of it.
 ///
 /// `Write` says that the sink failed, and `NoMemory` that memory was refused; it is asked for only before the first byte is written. `NoThread` is never answered.
 pub fn write_para<S: Sink>(

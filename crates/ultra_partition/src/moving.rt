@@ -9,7 +9,7 @@ use crate::kind::MessageKind;
 use ultra_block_core::{Block, reply_inlets, request_inlets};
 use ultra_route::Net;
 
-/// The first unit from `from` on to which messages may lead from a block, if it stands elsewhere.
+/// The first unit from `from` on that isn't in this block and to which messages may lead from it.
 #[inline(always)]
 fn next_target_elsewhere(block: &Block, kind: MessageKind, from: usize) -> Option<usize>
     ensures some { IfSome result (λ n. IsNextAway (link_table kind block.now) (inlets kind block.now.stages) block.now from n) }

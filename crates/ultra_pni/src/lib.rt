@@ -30,7 +30,7 @@ pub struct OpenCell {
 /// What became of a request that a processing element would issue.
 #[derive(Clone, Copy, Drop)]
 pub enum Issue {
-    /// It stands at the end of the list, and its cell is open.
+    /// It is at the end of the list, and its cell is open.
     Sent,
     /// Its cell is open already; nothing has changed.
     CellOpen,
@@ -40,7 +40,7 @@ pub enum Issue {
 
 /// The network interface of one processing element, or PE (this project's profile).
 ///
-/// It holds the requests that this PE has issued and that are not yet in the network, in the order of their issues, and the cells that are open: those with a reference that hasn't been answered. No cell is open twice, as in the 1983 paper.
+/// It holds the requests that this PE has issued and that are not yet in the network, in the order of their issues. It also holds the cells that are open: those with a reference that hasn't been answered. No cell is open twice, as in the 1983 paper.
 #[derive(Drop)]
 pub struct Pni {
     opened: ArrayVec<OpenCell, MOST_OPEN>,

@@ -21,7 +21,7 @@ pub record AreRowsOf (l : Log) (rows : List Row) : Type 0 where
       → (r : Row) × Has rows r × (r.issue ≡ i)
   pub has_answer : (a : LoggedAnswer) → Has l.answers a
       → (r : Row) × Has rows r × (r.answer ≡ Some a)
-  -- no name stands twice: each issue is in one row only, and so is each answer
+  -- no name occurs twice: each issue is in one row only, and so is each answer
   pub once : (j k : ℕ) (r s : Row) → slice_get rows j ≡ Some r → slice_get rows k ≡ Some s
       → r.issue.pe ≡ s.issue.pe → r.issue.number ≡ s.issue.number → j ≡ k
 

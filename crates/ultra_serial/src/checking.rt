@@ -56,9 +56,9 @@ impl From<AllocError> for CheckFault {
     }
 }
 
-/// Whether a list explains the log of a run from the initial cells to the last cells (each cell by its address and value; of an address that stands twice the last value counts, and the others hold 0): `Ok` exactly where it does.
+/// Whether a list explains the log of a run from the initial cells to the last cells: `Ok` exactly where it does. Each cell is given by its address and value. If an address occurs twice, the last value wins; the other cells hold 0.
 ///
-/// Else the fault is the first one. The entries are examined one by one, each for `NotIssued`, `Repeated`, `WrongReplay`, `WrongAnswer` and `TooLate`; then the log's answers for `Missing`; then the cells by address. `NoMemory` means that memory was refused, which may stand in place of another answer.
+/// Else the fault is the first one. The entries are examined one by one, each for `NotIssued`, `Repeated`, `WrongReplay`, `WrongAnswer` and `TooLate`; then the log's answers for `Missing`; then the cells by address. `NoMemory` means that memory was refused; it may replace any other answer.
 pub fn check(
     alloc: Global,
     initial: &[(Cell, Word)],
@@ -80,7 +80,7 @@ pub fn check(
     Ok(())
 }
 
-/// Finds the first fault of an entry, or of an answer that no entry has. If there is none, the entries have acted on the memory, one after the other.
+/// Finds the first fault of an entry, or of an answer that no entry has. If there is none, the entries have acted on the memory in order.
 fn examine(
     alloc: Global,
     log: &Log,
@@ -100,7 +100,7 @@ fn examine(
     Ok(())
 }
 
-/// Finds the first fault of an entry. The entries before it have acted on the memory, and stand in `names`, which has the log and no entries yet.
+/// Finds the first fault of an entry. The entries before it have acted on the memory, and are in `names`, which has the log and no entries at first.
 fn replay(
     list: &[Entry],
     names: &mut RecordsByName,
@@ -127,7 +127,7 @@ fn replay(
     Ok(())
 }
 
-/// The first answer whose name stands nowhere among the entries.
+/// The first answer whose name no entry has.
 fn first_missing(answers: &[LoggedAnswer], names: &RecordsByName) -> Option<usize>
     ensures none { (log : LogOf) (list : List EntryOf) → Holds names.now log list → result ≡ None → (a : AnswerOf) → Has answers.now a → IsListed list a }
     ensures some { (log : LogOf) (list : List EntryOf) → Holds names.now log list → IfSome result (λ n. IsFirstMissingAnswer answers.now list n) }
@@ -144,7 +144,7 @@ fn first_missing(answers: &[LoggedAnswer], names: &RecordsByName) -> Option<usiz
     None
 }
 
-/// Whether an answer's name stands in the list.
+/// Whether an answer's name is in the list.
 fn is_listed(answer: &LoggedAnswer, list: &[Entry]) -> bool
     ensures yes { result ≡ true → (e : EntryOf) × Has list.now e × IsAnswerTo e answer.now }
     ensures no { result ≡ false → (e : EntryOf) → Has list.now e → IsAnswerTo e answer.now → ⊥ }

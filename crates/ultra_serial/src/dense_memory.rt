@@ -1,4 +1,4 @@
-//! A memory on which requests act one after the other, with a table for low addresses.
+//! A memory on which requests act sequentially, with a table for low addresses.
 
 ghost use Rattle.std.specs.Prelude.{◌≡◌, ℕ, IfOk, OnOk, slice_index};
 ghost use Rattle.ultra_msg.specs.Act.{act as effect};
@@ -12,7 +12,7 @@ use ultra_msg::{Cell, Op, Reply, Word};
 /// The number of addresses whose cells are in the table.
 const TABLE_CELLS: usize = 65_536;
 
-/// A memory on which requests act one after the other. A cell to which nothing was given holds 0.
+/// A memory on which requests act sequentially. A cell to which nothing was given holds 0.
 #[derive(Drop)]
 pub(crate) struct DenseMemory {
     /// The cells of the lowest addresses.
@@ -74,7 +74,7 @@ impl DenseMemory {
     }
 }
 
-/// A list of `count` zeros. (A parameter, because a tactic would compute a list of so many.)
+/// A list of `count` zeros. (A parameter, because a tactic would compute a list of `TABLE_CELLS` zeros.)
 fn zeros(alloc: Global, count: usize) -> Result<Vec<Word>, AllocError>
     ensures { IfOk result (λ zeros. (k : ℕ) → slice_index zeros.items k ≡ 0) }
 {

@@ -81,7 +81,7 @@ fn is_issue_of(issue: &LoggedIssue, entry: &Entry) -> bool
         && issue.op == entry.op
 }
 
-/// Whether an entry of this name stands among those before.
+/// Whether an entry of this name is among those before.
 fn is_repeated(before: &[Entry], entry: &Entry) -> bool
     ensures yes { result ≡ true → (f : EntryOf) × Has before.now f × HasNameOf f entry.now }
     ensures no { result ≡ false → (f : EntryOf) → Has before.now f → HasNameOf f entry.now → ⊥ }

@@ -1,4 +1,4 @@
-//! A memory on which requests act one after the other.
+//! A memory on which requests act sequentially.
 
 ghost use Rattle.std.specs.Prelude.{◌≡◌, IfOk, OnOk, OnErr};
 ghost use Rattle.ultra_msg.specs.Act.{act as effect};
@@ -10,7 +10,7 @@ use std::collections::BTreeMap;
 use std::marker::Model;
 use ultra_msg::{Cell, Op, Reply, Word};
 
-/// A memory on which requests act one after the other. A cell to which nothing was given holds 0.
+/// A memory on which requests act sequentially. A cell to which nothing was given holds 0.
 #[derive(Drop)]
 pub struct SerialMemory {
     cells: BTreeMap<Cell, Word>,
@@ -25,7 +25,7 @@ impl Model for SerialMemory {
 }
 
 impl SerialMemory {
-    /// A memory with these cells, each given by its address and value; of an address that stands twice the last value counts.
+    /// A memory with these cells, each given by its address and value; if an address occurs twice, the last value wins.
     ///
     /// An error says that memory of the host was refused.
     pub fn new(alloc: Global, initial: &[(Cell, Word)]) -> Result<SerialMemory, AllocError>

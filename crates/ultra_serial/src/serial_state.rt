@@ -1,4 +1,4 @@
-//! What the requests of a run did one after the other.
+//! What the requests of a run did sequentially.
 
 ghost use Rattle.std.specs.Prelude.{◌≡◌, ℕ, [], ◌++◌, List, IfOk, OnOk};
 ghost use Rattle.ultra_serial_law.specs.declared.records.Entry.{Entry as Listed};
@@ -29,7 +29,7 @@ impl From<AllocError> for OrderFault {
     }
 }
 
-/// What is on its way to memory in a run, the memory on which its requests act one after the other, and what was served in the last cycle.
+/// What is on its way to memory in a run, the memory on which its requests act sequentially, and what was served in the last cycle.
 #[derive(Drop)]
 pub(crate) struct SerialState {
     waiting: PendingRequests,
@@ -103,7 +103,7 @@ impl SerialState {
     }
 }
 
-/// Leaves act on a memory one after the other, and come to the end of a serial list.
+/// Leaves act on a memory in order, and are appended to a serial list.
 fn serve(
     memory: &mut SerialMemory,
     order: &mut SerialList,

@@ -7,7 +7,7 @@ ghost use Rattle.ultra_serial.specs.ByName.{small_items};
 use std::alloc::{AllocError, Global};
 use std::{mem, slice};
 
-/// A list. It takes memory of its own only where it has two items or more.
+/// A list. It allocates memory only where it has two items or more.
 #[derive(Drop)]
 pub(crate) enum SmallList<T> {
     /// No item.

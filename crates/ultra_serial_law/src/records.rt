@@ -26,11 +26,11 @@ pub struct Entry {
     pub cell: Cell,
     /// What it does to the cell.
     pub op: Op,
-    /// What it is answered where the requests of the list act one after the other.
+    /// Its answer if the requests act in the order of the list.
     pub reply: Reply,
 }
 
-/// Requests in an order in which they could have acted one after the other.
+/// Requests in an order in which they could have acted sequentially.
 pub type SerialList = Vec<Entry>;
 
 /// A request was issued. The PE and the number are its name.

@@ -50,10 +50,10 @@ impl Model for Gathered {
 
 /// Puts the results of `count` jobs together, each at its number.
 ///
-/// The results are looked at in their order, and at each of them it is `Stranger` where there is no
-/// such job, else `Double` where an earlier result names the same job, else `NoMemory` where memory
-/// was refused to the job. Then it is `Missing` with the first job that isn't named. `NoMemory` may
-/// come in place of any other answer.
+/// It checks the results in order, and the first that has a fault decides. The fault is `Stranger`
+/// if there is no such job, else `Double` if an earlier result names the same job. Else it is
+/// `NoMemory` if memory was refused to the job. If no result has a fault but a job isn't named, it
+/// is `Missing` with the first such job. `NoMemory` may come in place of any other answer.
 pub fn gather(alloc: Global, count: u64, results: Vec<JobResult>) -> Result<Gathered, GatherFault>
     ensures ok { IfOk result (λ g. AreGathered count results.items g) }
     ensures err { IfErr result (ExplainsGatherFault count results.items) }

@@ -2,10 +2,10 @@
 //! number of threads nor on how many jobs run at once.
 //!
 //! A job is a run of a machine. A file of jobs names the settings and the program of each
-//! ([`jobs_from`], [`settings_from`]). Threads draw the jobs from a board (`ultra_board`), each with
-//! a seat of its own, and run each one under a pass by a [`JobGate`], which says what text a job
-//! gives: its trace, or the rows of its measures. What the threads bring back is put together by
-//! [`gather`] and written by [`report`] or by [`write_job_table`].
+//! ([`jobs_from`], [`settings_from`]). Threads draw the jobs from a board (`ultra_board`). Each has
+//! its own seat, and runs each job that it draws under a pass by a [`JobGate`]. The gate says what
+//! text a job gives: its trace, or the rows of its measures. [`gather`] puts the threads' results
+//! together, and [`report`] or [`write_job_table`] writes them.
 #![tactic(auto)]
 
 mod gathering;

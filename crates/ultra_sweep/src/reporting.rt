@@ -26,9 +26,9 @@ pub fn report<S: Sink>(gathered: &Gathered, sink: &mut S) -> Result<(), SinkFaul
     write_jobs(gathered, JobForm::Numbered, sink)
 }
 
-/// Writes a table of the rows of all jobs: the line `job,` and the names of the other columns,
-/// which `names` ends, and then the rows in order of the jobs. After a fault the sink has taken a
-/// prefix of it.
+/// Writes a table of the rows of all jobs. Its first line is `job,` and the names of the other
+/// columns; `names` has these names and ends the line. The rows follow in the order of the jobs.
+/// After a fault the sink has taken a prefix of it.
 pub fn write_job_table<S: Sink>(
     gathered: &Gathered,
     names: &[u8],

@@ -1,4 +1,4 @@
-//! The enhanced switch of the Omega network: queues toward memory, in which requests for one cell are combined, wait buffers that keep what is needed to answer them, and queues toward the processing elements.
+//! The enhanced switch of the Omega network. It has queues toward memory, in which requests for one cell are combined, wait buffers that keep what is needed to answer them, and queues toward the processing elements.
 //!
 //! Queues, wait buffers and pairwise combining are the 1983 paper's. Which entry combines and when, the places of the queues and their room rules are this project's profile.
 #![tactic(auto)]
@@ -33,7 +33,7 @@ pub struct QueueEntry {
     pub combined: bool,
 }
 
-/// What is kept of a combined pair, to answer its two requests from the one reply. The old request stood in the queue when the new one came; what was sent for both has the identity of the old one.
+/// What is kept of a combined pair, to answer its two requests from the one reply. The old request was in the queue when the new one came. What was sent for both has the identity of the old one.
 #[derive(Clone, Copy, PartialEq, Eq, Debug, Default, Drop)]
 pub struct WaitRecord {
     /// The processing element of the old request.
@@ -51,7 +51,7 @@ pub struct WaitRecord {
 /// What became of a request that arrived at a queue toward memory.
 #[derive(Clone, Copy, PartialEq, Eq, Debug, Drop)]
 pub enum Arrived {
-    /// It stands at the end of the queue.
+    /// It is at the end of the queue.
     Appended,
     /// It combined with the request of this processing element.
     CombinedWith(Pe),
@@ -62,7 +62,7 @@ pub enum Arrived {
 pub enum Split<M = ReplyMessage> {
     /// The reply itself: its request had not combined here.
     One(M),
-    /// The replies to the two requests of a combined pair: that to the one that stood in the queue, then that to the one that came to it.
+    /// The replies to the two requests of a combined pair: that to the one that was in the queue, then that to the one that came to it.
     Two(M, M),
 }
 
@@ -92,7 +92,7 @@ pub struct Switch {
 }
 
 impl Switch {
-    /// A switch whose queues and wait buffers are empty. `request_places` are the places of each queue toward memory, at most `MOST_REQUEST_PLACES`, `reply_places` those of each queue toward the processing elements, and `wait_places` those of each wait buffer, at most `MOST_WAIT_PLACES`.
+    /// A switch whose queues and wait buffers are empty. `request_places` are the places of each queue toward memory, at most `MOST_REQUEST_PLACES`. `reply_places` are those of each queue toward the processing elements. `wait_places` are those of each wait buffer, at most `MOST_WAIT_PLACES`.
     ///
     /// `NoMemory` means that the memory for a queue was refused.
     pub fn new(

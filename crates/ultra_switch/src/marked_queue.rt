@@ -45,7 +45,7 @@ impl MarkedQueue {
         })
     }
 
-    /// How many requests stand in the queue.
+    /// How many requests are in the queue.
     pub(crate) fn len(&self) -> usize
         ensures value { result ≡ length self.now.entries }
         ensures within { result ≤ self.now.places }
@@ -60,7 +60,7 @@ impl MarkedQueue {
         self.requests.free()
     }
 
-    /// Whether no request stands in the queue.
+    /// Whether no request is in the queue.
     pub(crate) fn is_empty(&self) -> bool
         ensures { result ≡ (length self.now.entries == 0) }
     {

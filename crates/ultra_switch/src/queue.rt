@@ -42,7 +42,7 @@ impl<T: Copy + Default> Queue<T> {
         })
     }
 
-    /// How many items stand in the queue.
+    /// How many items are in the queue.
     pub(crate) fn len(&self) -> usize
         ensures len { result ≡ length self.now.items }
         ensures within { (result ≤ self.now.capacity) × (self.now.capacity < 2 ^ 63) }
@@ -57,7 +57,7 @@ impl<T: Copy + Default> Queue<T> {
         self.free
     }
 
-    /// Whether no item stands in the queue.
+    /// Whether no item is in the queue.
     pub(crate) fn is_empty(&self) -> bool
         ensures { result ≡ (length self.now.items == 0) }
     {

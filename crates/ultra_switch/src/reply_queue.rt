@@ -43,7 +43,7 @@ impl ToPe {
         self.queue.free() >= 4
     }
 
-    /// How many replies stand in the queue.
+    /// How many replies are in the queue.
     pub fn len(&self) -> usize
         ensures value { result ≡ length self.now.replies }
         ensures within { result ≤ self.now.places }

@@ -59,7 +59,7 @@ impl ToMm {
         self.queue.free() >= 2
     }
 
-    /// How many requests stand in the queue.
+    /// How many requests are in the queue.
     pub fn len(&self) -> usize
         ensures value { result ≡ length self.now.lane.queue }
         ensures within { result ≤ self.now.request_places }
@@ -67,7 +67,7 @@ impl ToMm {
         self.queue.len()
     }
 
-    /// Whether no request stands in the queue.
+    /// Whether no request is in the queue.
     pub fn is_empty(&self) -> bool
         ensures { result ≡ (length self.now.lane.queue == 0) }
     {
@@ -136,7 +136,7 @@ impl ToMm {
         self.queue.pop()
     }
 
-    /// A request arrives. It combines with the frontmost entry for its cell that hasn't combined in this queue, where there is one and the wait buffer has a free place; otherwise it goes to the end of the queue. The record of a combination goes behind those that are there.
+    /// A request arrives. If the wait buffer has a free place, it combines with the frontmost entry for its cell that hasn't combined in this queue. If there is no such entry or no free place, it goes to the end of the queue. The record of a combination goes behind those that are there.
     pub fn arrive(&mut self, request: Request) -> Arrived
         requires { length self.old.lane.queue < self.old.request_places }
         ensures outcome { result ≡ arrival_of self.old request }
@@ -174,7 +174,7 @@ impl ToMm {
         }
     }
 
-    /// A reply comes back. Where the wait buffer has a record of its processing element and cell, the oldest such record goes, and the replies to the two requests of that pair are made by it; otherwise the reply goes on itself.
+    /// A reply comes back. If the wait buffer has a record of its processing element and cell, the oldest such record is removed. It gives the replies to the two requests of that pair. Otherwise the result is the reply itself.
     pub fn split(&mut self, reply: ReplyMessage) -> Split
         ensures replies { replies_in result ≡ split_replies self.old reply }
         ensures records { self.new ≡ after_split self.old reply }

@@ -32,7 +32,7 @@ pub struct Links<M: Message> {
     net: Net,
     /// By the link's number, what is on it.
     table: Vec<Slot<M>>,
-    /// At least the units to which a message leads.
+    /// A superset of the units to which a message leads.
     targets: UnitSet,
 }
 
@@ -44,7 +44,7 @@ impl<M: Message> Model for Links<M> {
     ghost invariant = { λ l. AreTargets (M.inlets l.net) l.net l.table.items l.targets };
 }
 
-/// The links at two ports, one after the other.
+/// The links at two ports in order: that at port 0 first if `zero_first`, otherwise that at port 1.
 #[inline(always)]
 pub fn ports_in_turn(links: Ports<usize>, zero_first: bool) -> (usize, usize)
     ensures { result ≡ ports_in_turn zero_first links }
@@ -76,7 +76,7 @@ impl<M: Message> Links<M> {
         })
     }
 
-    /// At least the units to which a message leads.
+    /// A superset of the units to which a message leads.
     #[inline(always)]
     pub fn targets(&self) -> &UnitSet
         ensures value { result.now ≡ self.now.targets }

@@ -59,7 +59,7 @@ pub fn element_number(net: Net, pe: u32) -> usize
     switch_count(net) + (net.size() + pe) as usize
 }
 
-/// The number of a link: of the position of a stage from which it leads, counted over all stages; or, where `stage` is the number of stages, of the module or the processing element from which it leads.
+/// The number of a link: that of the position of a stage from which it leads, counted over all stages. If `stage` is the number of stages, it leads from the module or the processing element with number `position`.
 #[inline(always)]
 pub(crate) fn link_number(net: Net, stage: u32, position: u32) -> usize
     requires stage { stage ≤ net }

@@ -60,7 +60,7 @@ impl Walk {
     }
 }
 
-/// What is done to the units of something, one after another by their numbers.
+/// What is done to the units of something, in the order of their numbers.
 pub trait Visit<T> {
     /// The condition of a visit of a unit.
     ghost can_visit: { Self → ℕ → T → Type 0 };
@@ -71,7 +71,7 @@ pub trait Visit<T> {
     /// That a unit has nothing to do, so that a visit leaves the target as it is.
     ghost is_idle: { Self → ℕ → T → Type 0 };
 
-    /// At least the units that have something to do.
+    /// A superset of the units that have something to do.
     fn units<'t>(&self, target: &'t T) -> &'t UnitSet
         ensures idle { (k : ℕ) → has_unit result.now k ≡ false → is_idle self.now k target.now }
         ensures still { (k : ℕ) → is_idle self.now k target.now → visited self.now k target.now ≡ target.now };
@@ -85,7 +85,7 @@ pub trait Visit<T> {
         ensures still { (k : ℕ) → is_idle self.now k target.new → visited self.now k target.new ≡ target.new };
 }
 
-/// Visits all units, by their numbers. It skips those that have nothing to do. In a `SMALL` machine these are all that are past the first word, and the loop is compiled in place.
+/// Visits all units in the order of their numbers. It skips those that have nothing to do. With `SMALL`, these include all units that aren't in the first word, and the loop is inlined.
 ///
 /// Where none has anything to do, it takes no more than one look at the set.
 #[inline(always)]

@@ -74,7 +74,7 @@ fn as_units<const SMALL: bool>(numbers: Ports<u16>) -> Ports<UnitNumber>
     }
 }
 
-/// The links by which replies come to a unit, by its number: a processing element has one, which stands at both ports. None come to a memory module.
+/// The links by which replies come to a unit, by its number. A processing element has one, which is the link at both ports. No replies come to a memory module.
 pub fn reply_inlets(net: Net, unit: usize) -> Option<Ports<usize>>
     ensures { result ≡ inlets_of_replies net unit }
 {
@@ -92,7 +92,7 @@ pub fn reply_inlets(net: Net, unit: usize) -> Option<Ports<usize>>
     })
 }
 
-/// The links by which requests come to a unit, by its number: a memory module has one, which stands at both ports. None come to a processing element.
+/// The links by which requests come to a unit, by its number. A memory module has one, which is the link at both ports. No requests come to a processing element.
 pub fn request_inlets(net: Net, unit: usize) -> Option<Ports<usize>>
     ensures { result ≡ inlets_of_requests net unit }
 {

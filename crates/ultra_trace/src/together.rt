@@ -44,7 +44,7 @@ pub fn write_run_together<R: Threads + Wait + Sync, G: Gate + Sync, T: RunText, 
     write_by_workers::<Brand, R, G, T, S>(rt, alloc, blocks, workers, gate, text, sink).1
 }
 
-/// Starts the workers to whom the units were dealt out, has them run a machine from its start, writes text of its run to a sink, and gives the sink back. On every return path the threads are joined.
+/// Starts the workers to whom the units were dealt out, and has them run a machine from its start. It writes text of the run to a sink, and gives the sink back. On every return path the threads are joined.
 fn write_by_workers<
     's,
     J: ExpectedResults + Send,

@@ -13,7 +13,7 @@ pub enum RunFault {
     Write,
     /// Memory was refused.
     NoMemory,
-    /// A thread could not be started, or was gone before the run ended.
+    /// A thread could not be started, or died before the run ended.
     NoThread,
 }
 

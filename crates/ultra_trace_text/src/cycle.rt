@@ -28,7 +28,7 @@ pub fn write_cycle<S: Sink>(blocks: &Blocks, sink: &mut S) -> Result<(), SinkFau
     buffer.finish()
 }
 
-/// Writes the lines of the last cycle in a buffer: its number, what happened, and what stands where afterwards.
+/// Writes the lines of the last cycle in a buffer: its number, what happened, and what the units hold afterwards.
 pub fn put_cycle<S: Sink>(buffer: &mut TextBuffer<'_, S>, blocks: &Blocks)
     requires { 0 < blocks.now.machine.cycles }
     ensures { Writes S.taken S.failures (cycle_text blocks.now.config blocks.now.machine) buffer.old buffer.new }

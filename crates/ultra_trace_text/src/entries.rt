@@ -1,4 +1,4 @@
-//! What stands on one line, entry after entry, with commas between them.
+//! The entries of one line, with commas between them.
 
 ghost use Rattle.std.specs.Prelude.{◌≡◌, ℕ, ◌+◌, ◌<◌, ◌≤◌, List, ◌++◌, Some, length, slice_get};
 ghost use Rattle.ultra_io.specs.TextBuffer.{Ends, GoesOn};

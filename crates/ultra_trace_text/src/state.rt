@@ -1,4 +1,4 @@
-//! The lines of what stands where after a cycle.
+//! The lines that list what the units hold after a cycle.
 
 ghost use Rattle.std.specs.Prelude.{◌≡◌, ◌+◌, ◌*◌, ◌-◌, ◌/◌, ◌%◌, ◌^◌, ◌<◌, ◌≤◌, true};
 ghost use Rattle.ultra_model.specs.Machine.{size};
@@ -17,7 +17,7 @@ use ultra_msg::Sink;
 use ultra_route::Net;
 use ultra_topology::{UnitSet, is_small};
 
-/// Writes what stands where after the last cycle.
+/// Writes what the units hold after the last cycle.
 #[inline(always)]
 pub(crate) fn put_state<S: Sink>(buffer: &mut TextBuffer<'_, S>, blocks: &Blocks)
     ensures { Writes S.taken S.failures (state_text blocks.now.config blocks.now.machine) buffer.old buffer.new }
@@ -31,7 +31,7 @@ pub(crate) fn put_state<S: Sink>(buffer: &mut TextBuffer<'_, S>, blocks: &Blocks
     }
 }
 
-/// Writes what stands where in a machine in one block. The code for a `SMALL` machine is compiled apart.
+/// Writes what the units of a machine in one block hold. A `SMALL` machine uses a specialised copy of the code.
 #[inline(always)]
 fn put_state_of_one<const SMALL: bool, S: Sink>(buffer: &mut TextBuffer<'_, S>, blocks: &Blocks)
     requires one { blocks.now.count ≡ 1 }
@@ -44,7 +44,7 @@ fn put_state_of_one<const SMALL: bool, S: Sink>(buffer: &mut TextBuffer<'_, S>, 
     put_all_held::<SMALL, S>(buffer, blocks, requests, records, replies);
 }
 
-/// Writes what stands where in a machine in several blocks.
+/// Writes what the units of a machine in several blocks hold.
 #[cold]
 #[inline(never)]
 fn put_state_of_several<S: Sink>(buffer: &mut TextBuffer<'_, S>, blocks: &Blocks)
@@ -56,7 +56,7 @@ fn put_state_of_several<S: Sink>(buffer: &mut TextBuffer<'_, S>, blocks: &Blocks
     put_all_held::<false, S>(buffer, blocks, &requests, &records, &replies);
 }
 
-/// Writes what stands where, given the units that hold requests, records and replies.
+/// Writes what the units hold, given which of them hold requests, records and replies.
 #[inline(always)]
 fn put_all_held<const SMALL: bool, S: Sink>(
     buffer: &mut TextBuffer<'_, S>,

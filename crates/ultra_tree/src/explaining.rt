@@ -88,10 +88,10 @@ impl<A: Allocator + Clone> Explainer<A> {
         Some(&self.held[place].tree)
     }
 
-    /// Whether `absorb` may be called with an event: at `Served` and `Combined` the requests are
-    /// held, at `Combined` those of two processing elements (PEs); at `Issued` the request isn't held
-    /// yet, its PE is one of the machine's, and fewer of that PE's requests are held than it may have
-    /// cells open.
+    /// Whether `absorb` may be called with an event. At `Served` and `Combined` the requests have
+    /// to be held, at `Combined` those of two processing elements (PEs). At `Issued` the request
+    /// isn't held yet, its PE is one of the machine's, and fewer of that PE's requests are held
+    /// than it may have open cells.
     pub fn accepts(&self, event: &Event) -> bool
         ensures { IsTrue result
             ↔ IsAbsorbable self.now.elements self.now.most_open self.now.trees event.now }
@@ -150,14 +150,14 @@ impl<A: Allocator + Clone> Explainer<A> {
         self.held.clear();
     }
 
-    /// Absorbs an event of the machine. At `Served` it gives the tree of the request that was served,
-    /// and otherwise `None`.
+    /// Absorbs an event of the machine. At `Served` it gives the tree of the request that was
+    /// served, and otherwise `None`.
     ///
-    /// `Full` comes at `Combined` alone, and says that memory of the allocator was refused; no
-    /// trees are held then, and every later call answers `Spent`. The condition, unless memory was
-    /// refused before: at `Served` and `Combined` the requests are held, at `Combined` those of two
-    /// processing elements (PEs); at `Issued` the request isn't held yet, its PE is one of the
-    /// machine's, and fewer of that PE's requests are held than it may have cells open.
+    /// `Full` comes at `Combined` alone, and says that memory of the allocator was refused. No
+    /// trees are held then, and every later call answers `Spent`. Unless memory was refused before,
+    /// there is a condition. At `Served` and `Combined` the requests have to be held, at `Combined`
+    /// those of two processing elements (PEs). At `Issued` the request isn't held yet, its PE is
+    /// one of the machine's, and fewer of that PE's requests are held than it may have open cells.
     pub fn absorb(&mut self, event: &Event) -> Result<Option<Tree<A>>, ExplainFault>
         requires { self.old.is_spent ≡ false
             → IsAbsorbable self.old.elements self.old.most_open self.old.trees event.now }

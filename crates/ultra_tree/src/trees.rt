@@ -12,10 +12,10 @@ use ultra_msg::{Op, Pe};
 ///
 /// A tree may have any height: no call on it, its drop included, needs more stack for a higher one.
 /// `leaves`, `height` and `write_tree` are loops that find a leaf by its number, along the counts
-/// of leaves that each pair keeps. A drop goes down the larger part of a pair by a loop, and drops
-/// the smaller, which has at most half of the leaves, by a call: so at most 64 drops stand on the
-/// stack, since leaves are counted in 64 bits. Trees are made by an `Explainer` alone, which keeps
-/// these counts.
+/// of leaves that each pair keeps. A drop goes down the larger part of a pair by a loop. It drops
+/// the smaller part, which has at most half of the leaves, by a call. So at most 64 drops are on
+/// the stack, since leaves are counted in 64 bits. Trees are made by an `Explainer` alone, which
+/// keeps these counts.
 #[derive(Drop)]
 pub struct Tree<A: Allocator> {
     pub(crate) node: CountedNode<A>,
@@ -39,18 +39,18 @@ pub(crate) enum CountedNode<A: Allocator> {
         stage: u32,
         /// The queue's memory-side position in the stage, from 0.
         position: u32,
-        /// The tree of the request that stood in the queue.
+        /// The tree of the request that was in the queue.
         old: Box<CountedNode<A>, A>,
         /// The tree of the request that came to it.
         new: Box<CountedNode<A>, A>,
-        /// Whether the one that stood in the queue comes first in the serial order.
+        /// Whether the one that was in the queue comes first in the serial order.
         old_first: bool,
         old_leaves: u64,
         new_leaves: u64,
     },
 }
 
-/// Goes down the larger part of each pair; the smaller is dropped by a call of its own.
+/// Goes down the larger part of each pair; a separate call drops the smaller.
 impl<A: Allocator> Drop for CountedNode<A> {
     fn drop(mut self) {
         loop {

@@ -10,7 +10,7 @@ use ultra_msg::{Event, Pe, RequestPacket};
 use ultra_route::Net;
 use ultra_switch::{Arrived, Ports, ToMm, WaitRecord};
 
-/// The first request of a queue toward memory leaves, if there is room for it where it goes. `None` stands where nothing leaves.
+/// The first request of a queue toward memory leaves, if there is room for it where it goes. The result is `None` where nothing leaves.
 #[inline(always)]
 pub fn send_head_if(has_room: bool, queue: &mut ToMm) -> Option<RequestPacket>
     ensures sent { result ≡ where_room has_room (request_of (slice_get queue.old.lane.queue 0)) }

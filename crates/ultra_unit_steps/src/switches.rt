@@ -5,7 +5,7 @@ ghost use Rattle.ultra_unit_steps.specs.Switches.{has_reply_room, has_request_ro
 
 use ultra_switch::{Ports, Switch};
 
-/// Whether a reply stands in one of the queues toward the processing elements.
+/// Whether a reply is in one of the queues toward the processing elements.
 #[inline(always)]
 pub fn holds_replies(switch: &Switch) -> bool
     ensures { result ≡ holds_replies switch.now }
@@ -23,7 +23,7 @@ pub fn has_reply_room(switch: &Switch) -> bool
     zero.has_room() && one.has_room()
 }
 
-/// Whether a request stands in one of the queues toward memory.
+/// Whether a request is in one of the queues toward memory.
 #[inline(always)]
 pub fn holds_requests(switch: &Switch) -> bool
     ensures { result ≡ holds_requests switch.now }
