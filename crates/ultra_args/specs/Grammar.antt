@@ -30,7 +30,7 @@ option_rule name parser = record (new_rule name) {
   parser = parser;
 }
 
--- A reference in a constant has another type than one in code: T is the type of a reference to a
+-- A reference in a constant has another type than one in code. T is the type of a reference to a
 -- text, and R that of one to the arguments of a command
 module _ {T : Type 0} (text : T → Text) where
   -- how an argument of this name and kind is read

@@ -21,7 +21,7 @@ use Rattle.ultra_asm.proofs.Operands.{fault_in}
 use Rattle.ultra_asm.proofs.Definitions.{Lines, statements-append, pc_within, near_twice, near_is}
 use Rattle.ultra_asm.proofs.Lines.{line_is, line_fault_is, line_has_room, no_fault, instruction_same}
 
--- ---- the instructions of statements, one after another
+-- ---- the instructions of statements, in order
 module _ (pcs : LabelPcs) where
   pub instructions_append : (ss ts : Lines) (is js : List Instr) → AreInstructions pcs ss is → AreInstructions pcs ts js → AreInstructions pcs (ss ++ ts) (is ++ js)
   instructions_append [] ts [] js h k = k

@@ -1,4 +1,4 @@
--- what stands before the first element that passes a test
+-- what is before the first element that passes a test
 use Rattle.std.proofs.Common.{◌≡◌, ℕ, Bool, List, length, take, position, Some, None, sym, ap, ◌∙◌, inl, inr, nat_lt}
 use Rattle.std.specs.List.{before_first, position_or_len}
 use Rattle.std.proofs.lemmas.Bool.{cases_Bool, cond-true, cond-false, ltb-false}

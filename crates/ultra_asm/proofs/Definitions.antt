@@ -20,7 +20,7 @@ kept_one : (s : List (List ℕ)) (ss : Lines) → length (cond (has_words s) (s 
 kept_one [] ss = omega arith
 kept_one (w ∷ ws) ss = omega arith
 
--- how many instructions stand on lines
+-- how many instructions are on lines
 pub count_cons : (ws : List (List ℕ)) (ls : Lines) → length (statements (ws ∷ ls)) ≡ instructions_on ws + length (statements ls)
 count_cons ws ls = kept_one (statement ws) (statements ls)
 

@@ -69,7 +69,7 @@ module _ (q : List ℕ) where
       let second = is_named b k in
       rw (first, second) (tied_itself nat_list_cmp_total q)
 
-  -- those of the name stand by line
+  -- those of the name are in the order of their lines
   abbrev pub AreInTurn : List Label → Type 0
   AreInTurn [] = Unit {0}
   AreInTurn (l ∷ ls) = (has_name q l ≡ true → All (λ m. has_name q m ≡ true → l.line ≤ m.line) ls) × AreInTurn ls
@@ -179,7 +179,7 @@ module _ (q : List ℕ) where
       pub hit : (d : Label) → i < length ls → has_name q (get_or ls i d) ≡ true → find (has_name q) ls ≡ Some (get_or ls i d)
       hit d lt y = find_at ls i d (none_below d) lt y
 
-      -- a label of the name further on would have to stand here
+      -- if a label from here on has the name, so has the label here
       further : (d : Label) (k : ℕ) → i ≤ k → k < length ls → has_name q (get_or ls k d) ≡ true → has_name q (get_or ls i d) ≡ true
       further d k le lt y =
           let here = (get_or ls i d).name.now in

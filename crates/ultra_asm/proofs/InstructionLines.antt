@@ -1,4 +1,4 @@
--- the lines of a text's instructions: the program counter of a line is how many of them stand before it
+-- the lines of a text's instructions: the program counter of a line is how many are before it
 use Rattle.std.proofs.Common.{◌≡◌, ℕ, zero, suc, ◌+◌, ◌-◌, ◌<◌, ◌≤◌, ◌⊎◌, true, false, List, [], ◌∷◌, ◌++◌, length, get_or, take, nat_lt, min, Some, refl, ◌∙◌, ap, inl, inr, arith}
 use Rattle.std.specs.List.Sorted.{IsNonDecreasing}
 use Rattle.std.proofs.lemmas.Bool.{cases_Bool, cases_lt, lt-ltb, le-ltb}
@@ -11,7 +11,7 @@ use Rattle.ultra_asm.specs.Labels.{instructions_on, defines, definition_from}
 use Rattle.ultra_asm.specs.ProgramText.{statements}
 use Rattle.ultra_asm.proofs.Definitions.{Lines, count_cons, count_next}
 
--- how many instructions stand before line k
+-- how many instructions are before line k
 abbrev pub count : Lines → ℕ → ℕ
 count ls k = length (statements (take k ls))
 

@@ -168,7 +168,7 @@ module _ (ls : Lines) (defined : List ℕ → Option Definition) (table : (q : L
   pcs_same : (w : List ℕ) → fault_unless (label_pc ls w) UnknownLabel ≡ fault_unless (option_map near_pc (defined w)) UnknownLabel
   pcs_same w = found_same (definition_of ls w) ∙ ap (λ d. fault_unless (option_map near_pc d) UnknownLabel) (sym (table w))
 
-  -- the line as it is read, where n instructions stand before it
+  -- the line as it is read, where n instructions are before it
   abbrev pub read_at : ℕ → Result (Option Instr) AsmFaultKind
   read_at n = read_line defined k (nat_lt n 4096) (line_at ls k)
 

@@ -138,12 +138,12 @@ label_at all t target low line k (i ∷ is) from to small = elim (cases_eq k t) 
       (λ l. past_instruction l k t i (lines_from all (k + 1) is) (λ m. label_at all t target low m (k + 1) is (omega arith) (omega arith) (omega arith)))
 ]
 
--- ---- no label stands twice
+-- ---- no label occurs twice
 abbrev IsLabelledAfter : Lines → List (List ℕ) → Type 0
 IsLabelledAfter before [] = Unit {0}
 IsLabelledAfter before (w ∷ ws) = IfSome (before_colon w) (λ name. (is_name name ≡ true) × (is_some (definition_of before name) ≡ false))
 
--- of lines that stand behind others
+-- of lines that come after others
 abbrev AreLabelled : Lines → Lines → Type 0
 AreLabelled before [] = Unit {0}
 AreLabelled before (ws ∷ ls) = IsLabelledAfter before ws × AreLabelled (before ++ ws ∷ []) ls

@@ -1,4 +1,4 @@
--- the lines of a text, as a loop takes them one after another
+-- the lines of a text, as a loop takes them in order
 use Rattle.std.proofs.Common.{◌≡◌, ℕ, ◌+◌, ◌<◌, ◌≤◌, List, [], map, length, get_or, Bor, Option, Some, None, sym, ◌∙◌, ap, arith}
 use Rattle.std.specs.List.{enumerate_from}
 use Rattle.std.proofs.lemmas.List.{get_or-map, length-map}

@@ -18,6 +18,6 @@ label_cmp a b = ordering_then (slice_cmp nat_cmp a.name.now b.name.now) (nat_cmp
 abbrev pub AreInOrder : List Label → Type 0
 AreInOrder ls = IsSortedBy (λ a b. is_lt (label_cmp a b)) ls
 
--- how many instructions stand before a line, where these are the lines of instructions
+-- how many instructions are before a line, where these are the lines of instructions
 abbrev pub pc_at : List ℕ → ℕ → ℕ
 pc_at lines line = prefix_len (λ n. nat_lt n line) lines

@@ -72,7 +72,7 @@ is_at k (Some target) = target == k
 abbrev pub is_target : List Instr → ℕ → Bool
 is_target is k = list_any (λ i. is_at k (jump_target i)) is
 
--- the line of a label stands only where some instruction jumps to
+-- the line of a label is written only where some instruction jumps to it
 abbrev pub label_if : Bool → ℕ → List ℕ
 label_if true k = label_line k
 label_if false k = []

@@ -104,7 +104,7 @@ module _ (pcs : List ℕ → Option ℕ) where
   fault_of_operands ss ws =
       or_else (fault_if (not (length ws == length ss)) WrongOperands) (operands_fault ss ws)
 
-  -- of a word and its operands, where n instructions stand before
+  -- of a word and its operands, where n instructions come before
   abbrev pub instruction_fault : ℕ → Option Mnemonic → List (List ℕ) → Option AsmFaultKind
   instruction_fault before None ws = Some UnknownWord
   instruction_fault before (Some m) ws =

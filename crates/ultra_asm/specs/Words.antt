@@ -16,7 +16,7 @@ begins_comment b = (b == 59) || (b == 35)
 abbrev pub words_of : List ℕ → List (List ℕ)
 words_of code = filter (λ w. not (length w == 0)) (slice_split is_separator code)
 
--- the words of a line: what its separators leave of what stands before the comment
+-- the words of a line: what its separators leave of what is before the comment
 abbrev pub line_words : List ℕ → List (List ℕ)
 line_words line = words_of (before_first begins_comment line)
 
@@ -42,7 +42,7 @@ is_name w =
     nat_lt 0 (length w) && nat_le (length w) 32 && is_letter (slice_index w 0)
     && list_all is_name_byte w
 
--- what stands before the `:` at a word's end, if there is one
+-- what is before the `:` at a word's end, if there is one
 abbrev pub before_colon : List ℕ → Option (List ℕ)
 before_colon w =
     if nat_lt 0 (length w) && (slice_index w (length w - 1) == 58)

@@ -49,7 +49,7 @@ module _ (c : Settings) (program : List Instr) where
     pub elements : IsRow (2 ^ c.stages) p (first_element c) b.elements
 
 module _ (c : Settings) (program : List Instr) (range : AreInRange c) (b : BlockState) (all : AreIn c program (switch_count c.stages) (2 ^ c.stages) (2 ^ c.stages) b) where
-  -- all stand in block 0
+  -- all are in block 0
   alike : AreAlike c.stages (frame_of c.stages (replicate (unit_count c.stages) 0) (b ∷ [])) (record { switch = λ n. empty_switch c; memory_module = first_module c; element = first_element c; replies = λ l. None; requests = λ l. None })
   alike = grind (arith, get_or-replicate, get_or_past, length-replicate)
 

@@ -10,9 +10,10 @@ use Rattle.ultra_block.specs.{Dealt.IsLastNamed, State.MakeUp}
 
 ruleset moving = (nat_tests, put_there, put_apart, length-set, get_or-set_same, get_or-set_other)
 
--- ---- blocks of a machine of d stages, which stood in block b, when the units with numbers below n have gone
+-- ---- blocks of a machine of d stages: its units were in block b, and those with numbers below n
+-- have gone to their blocks
 module _ (d : ℕ) (partition : List ℕ) (b : BlockState) where
-  -- of a sort those stand in their blocks, and the others are left
+  -- of a sort those are in their blocks, and the others are left
   record SortIsCarried {X : Type 0} (sort : Sort X) (n : ℕ) (left : BlockState) (now : List BlockState) : Type 0 where
     rest : (i : ℕ) → i < sort.count d → n ≤ sort.number d i → sort.at left i ≡ sort.at b i
     there : (k i : ℕ) → k < length now → i < sort.count d

@@ -21,7 +21,9 @@ module _ (d : ℕ) {S B E F : Type 0} (fs : Option S → F) (fb : Option B → F
     element_anew : (p : ℕ) (o : Option E) → IsElement d n p → p < length es → now n ≡ fe o → (k : ℕ) → now k ≡ all_facts ws bs (set es p o) k
     element_anew p o own within is k = grind (arith, unit_is, unit_of_element, get_or-set_same, get_or-set_other)
 
--- block `a` has these units, these of them are awake, and it is else as `b` but for its other sets, for what is on its links and for what it lists
+-- block `a` has these units, and these of them are awake. Its network, its wiring and its program
+-- are those of `b`, and its links are of as many stages. It has memory for at least as many events
+-- and stops
 pub record IsAfter (b : Block) (ws : List (Option Switch)) (bs : List (Option ModuleState)) (es : List (Option ProcessingElement)) (woken : List ℕ) (a : Block) : Type 0 where
   pub network : a.net ≡ b.net
   pub wiring : a.wiring ≡ b.wiring
@@ -54,7 +56,7 @@ RestsStill program n awake now was o = ((k : ℕ) → k ≢ n → has_unit now k
 
 -- ---- unit n of block `b` is put anew, and `g` gives what is said of it then by what was said before; the block is `a` afterwards
 module _ {b a : Block} (known : IsConsistentBlock b) {n : ℕ} {g : UnitFacts → UnitFacts} (noted : AreNoted n g b.sets a.sets) where
-  -- what stood there was `was`, and `o` does now
+  -- `was` was there, and `o` is there now
   pub switch_kept : (was o : Option Switch) → own_switch b.switches.items n ≡ was → g (switch_facts was) ≡ switch_facts o
       → (n < switch_count b.net) × IsAfter b (set b.switches.items n o) b.modules.items b.elements.items b.awake a → IsConsistentBlock a
   switch_kept was o there is (own, after) =
@@ -77,7 +79,8 @@ module _ {b a : Block} (known : IsConsistentBlock b) {n : ℕ} {g : UnitFacts �
       let still = still_at_rest b.program _ _ known.rests known.elements own a.awake agree (rest (λ asleep. rw (← there) (known.rests p own.small (rw (own.number) at asleep)))) in
       grind (arith, length-set)
 
--- ---- the set of those that have yet to stop is empty where no processing element that stands here has, and only there
+-- ---- the set of those that have yet to stop is empty where no processing element of the block has
+-- yet to stop, and only there
 any_not_all : {X : Type 0} (p q : X → Bool) → ((x : X) → p x ≡ true → q x ≡ false) → (xs : List X) → list_any p xs ≡ true → list_all q xs ≡ false
 any_not_all p q apart [] some = absurd cc
 any_not_all p q apart (x ∷ xs) some = let rest = any_not_all p q apart xs in grind (arith, apart x)
@@ -113,7 +116,7 @@ pub are_own : {b : Block} → IsConsistentBlock b → AreOwnRooms (seen_of b) (o
 are_own known = grind (arith, known.facts, none_there 5)
 
 -- ---- what leads to units elsewhere
--- `away` are the units to which messages of a kind lead that don't stand in the block
+-- `away` are the units outside the block to which messages of a kind lead
 module _ {M : Type 0} (inlets : ℕ → ℕ → Option (Ports ℕ)) {b : Block} (known : IsConsistentBlock b) (l : LinksState M) (stages : l.stages ≡ b.net) (targets away : List ℕ)
     (are : AreTargets (inlets l.stages) l.stages l.table targets) (rest : (k : ℕ) → has_unit away k ≡ has_unit targets k && not (has_unit b.sets.here k)) where
   pub next_away : (from : ℕ) (o : Option ℕ) → IfSome o (λ k. IsFirstFrom away from k) → IfSome o (λ k. IsNextAway l.table (inlets b.net) (seen_of b) from k)

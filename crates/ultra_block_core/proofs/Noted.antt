@@ -1,4 +1,5 @@
--- What is noted of a switch or a module once messages have come to it or left it: its queues are longer then, or shorter, and it keeps more records, or fewer.
+-- What is noted of a switch or a module once messages have come to it or left it. Its queues are
+-- longer then, or shorter, and it keeps more records, or fewer.
 use Rattle.std.proofs.Common.{◌≡◌, ℕ, ◌≤◌, List, ◌++◌, true, Option, Some, length, length-append, arith, [], ◌∷◌, refl, Bool, false}
 use Rattle.ultra_block_core.proofs.Common.{nat_tests, Request, ReplyMessage, Switch, after_leaving, arrive_all, combinations, records_left, has_none, after_both, combinations_of_both, switch_facts, common_steps, all_noted, arrive_all_no_shorter, Lane, arrive, WaitRecord}
 

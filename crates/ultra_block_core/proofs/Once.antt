@@ -3,7 +3,7 @@ use Rattle.std.proofs.Common.{[], ◌≡◌, ◌≢◌, ℕ, zero, suc, ◌<◌,
 use Rattle.ultra_block_core.proofs.Common.{append-nil}
 use Rattle.ultra_topology.specs.Visits.{after_units}
 
--- the events of the units below a number, one after another
+-- the events of the units below a number, in order
 unfoldable pub entries_before : {T E : Type 0} → (ℕ → T → List E) → ℕ → T → List E
 entries_before entries zero t = []
 entries_before entries (suc n) t = entries_before entries n t ++ entries n t
@@ -34,7 +34,7 @@ module _ {T : Type 0} (f : ℕ → T → T) (P : T → Type 0) (keeps : (j : ℕ
       changed_once zero t p within = absurd (omega arith)
       changed_once (suc k) t p within = let before = changed_once k t p in grind (arith, all_keep, not_yet_changed)
 
-  -- the events of the units, one after another
+  -- the events of the units, in order
   module _ {E : Type 0} (events : T → List E) (entries : ℕ → T → List E) (adds : (j : ℕ) (t : T) → P t → events (f j t) ≡ events t ++ entries j t)
       (others : (n j : ℕ) (t : T) → P t → j ≢ n → entries n (f j t) ≡ entries n t) where
     pub all_entries : (m : ℕ) (t : T) → P t → events (after_units f m t) ≡ events t ++ entries_before entries m t

@@ -1,5 +1,6 @@
--- What units do in a half of a cycle, each by what it is and by what is on its links. No other unit changes either, so after visits of all
--- each has acted once, by what there was at the start; and what they list stands in the order of their numbers.
+-- What units do in a half of a cycle, each by what it is and by what is on its links. No other unit
+-- changes either. So after visits of all each has acted once, by what there was at the start. What
+-- they list is in the order of their numbers.
 use Rattle.std.proofs.Common.{[], ◌≡◌, ◌≢◌, ℕ, ◌+◌, ◌*◌, ◌^◌, ◌<◌, ◌≤◌, List, ◌++◌, Option, Some, None, length, length-append, set, get_or-set_same, get_or-set_other, arith, slice_index_or}
 use Rattle.ultra_block_core.proofs.Common.{length-set, append-nil, Event, Stop, Switch, Ports, ModuleState, switch_count, link_number, module_number, element_number, unit_count, of_unit, unit_of, stage_of, index_of, on_link, on_both, is_switch, unit_is, unit_of_switch, unit_of_module, unit_of_element, AreRead, at_both, ports, ProcessingElement}
 use Rattle.ultra_topology.specs.declared.unit.Unit.TheVariants as unit
@@ -23,7 +24,8 @@ pub record UnitUpdate (L X : Type 0) : Type 0 where
   pub events : ℕ → X → L → List Event
   pub stops : ℕ → X → L → List Stop
 
--- what is on the links of a unit, if it has any: a switch has two, another unit has one, which stands at both ports
+-- what is on the links of a unit, if it has any: a switch has two, another unit has one, which is
+-- at both ports
 module _ {M : Type 0} (t : List (Option M)) where
   abbrev pub on_two : Option (Ports ℕ) → Ports (Option M)
   on_two None = ports None None
@@ -47,7 +49,7 @@ abbrev pub on_links_after : {L : Type 0} → Option (Ports ℕ) → L → L → 
 on_links_after None before l = before
 on_links_after (Some p) before l = l
 
--- a unit that stands elsewhere does nothing
+-- a unit that is elsewhere does nothing
 abbrev pub after_update : {L X : Type 0} → UnitUpdate L X → ℕ → Option X × L → Option X × L
 after_update a i (None, l) = (None, l)
 after_update a i (Some x, l) = (Some (a.unit i x l), on_links_after (a.at i) l (a.links i x l))

@@ -23,7 +23,8 @@ module _ {M : Type 0} (table : List (Option M)) (inlets : ℕ → Option (Ports 
   AllStayWithin from to =
       (n : ℕ) → from ≤ n → n < to → is_in_block n b ≡ false → AreEmpty table (inlets n)
 
-  -- unit k is the first from `from` on to which something may lead from the block
+  -- k is at least `from` and below MOST_UNITS. Nothing leads from the block to a unit elsewhere
+  -- whose number is at least `from` and below k
   pub record IsNextAway (from k : ℕ) : Type 0 where
     pub after : from ≤ k
     pub within : k < MOST_UNITS

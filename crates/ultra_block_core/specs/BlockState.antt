@@ -5,8 +5,8 @@ use Rattle.ultra_msg.specs.declared.Event.{Event}
 use Rattle.ultra_model.specs.declared.Stop.{Stop}
 use Rattle.ultra_topology.specs.declared.TheConstants.{MOST_UNITS}
 
--- the program that its processing elements run, the units that stand there, by their numbers, what
--- is on each link, and what has happened in the cycle
+-- the program that its processing elements run, the units in it, by their numbers, what is on each
+-- link, and what has happened in the cycle
 pub record BlockState : Type 0 where
   pub stages : ℕ
   pub done : ℕ

@@ -27,7 +27,7 @@ without_unit n b = elim (unit_of b.stages n) [
   | unit.Nothing ↦ b
 ]
 
--- a block with the unit with number n of another, if it stands there
+-- block `b` with the unit with number n of block `from`, if `from` has it
 abbrev pub with_unit : ℕ → BlockState → BlockState → BlockState
 with_unit n from b = elim (unit_of from.stages n) [
   | unit.Switch s k ↦ record b { switches = put_on b.switches n (own_switch from.switches n) }

@@ -18,7 +18,7 @@ abbrev pub element_holds : Held → ProcessingElement → Bool
 element_holds Request e = holds_request e
 element_holds other e = false
 
--- whether the unit with number n stands here and holds it
+-- whether the unit with number n is here and holds it
 abbrev pub holds_at : BlockState → Held → ℕ → Bool
 holds_at b held n =
     of_unit b.stages

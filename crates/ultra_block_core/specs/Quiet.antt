@@ -2,12 +2,12 @@
 use Rattle.std.specs.Prelude.{Bool, true, not, ◌&&◌, Option, Some, None}
 use Rattle.ultra_block_core.specs.{Prelude.ProcessingElement, Prelude.has_stopped, Prelude.list_all, Prelude.quiet_switch, Prelude.quiet_module, Prelude.quiet_element, BlockState.BlockState}
 
--- a test is true of a unit, or the unit stands elsewhere
+-- a test is true of a unit, or the unit is elsewhere
 abbrev pub or_elsewhere : {X : Type 0} → (X → Bool) → Option X → Bool
 or_elsewhere p None = true
 or_elsewhere p (Some x) = p x
 
--- each unit that stands here is quiet
+-- each unit that is here is quiet
 abbrev pub quiet_block : BlockState → Bool
 quiet_block b =
     list_all (or_elsewhere quiet_switch) b.switches

@@ -29,7 +29,7 @@ facts_at s k = record {
   keeps_records = has_unit s.keeps_records k;
 }
 
--- nothing is true of a unit that doesn't stand here
+-- nothing is true of a unit that isn't here
 abbrev pub no_facts : UnitFacts
 no_facts = record {
   here = false;
@@ -47,12 +47,12 @@ no_facts = record {
 abbrev pub would_serve : ModuleState → Bool
 would_serve b = is_some b.inp && not (is_some b.out)
 
--- whether something is true of a unit, if it stands here
+-- whether a unit is here and something is true of it
 abbrev pub if_here : {X : Type 0} → (X → Bool) → Option X → Bool
 if_here p None = false
 if_here p (Some x) = p x
 
--- what is true of a switch, or of none that would stand here
+-- what is true of a switch; nothing is, if it isn't here
 abbrev pub switch_facts : Option Switch → UnitFacts
 switch_facts o = record no_facts {
   here = is_some o;
@@ -82,8 +82,8 @@ element_facts o = record no_facts {
   running = if_here is_running o;
 }
 
--- ---- what is said of a unit once some of it is noted anew, where what was said before counts too:
--- `by` is `◌||◌` after messages came, and `◌&&◌` after some left
+-- ---- what is said of a unit once some of it is noted anew. What was said before counts too: `by`
+-- is `◌||◌` after messages came, and `◌&&◌` after some left
 module _ (by : Bool → Bool → Bool) where
   abbrev pub replies_noted : Switch → UnitFacts → UnitFacts
   replies_noted w f = record f {
@@ -132,8 +132,9 @@ seen_of b = record {
   stops = b.stops.items;
 }
 
--- the wiring and the links are those of the network, there is an entry for each unit, the sets say
--- what is true of it, and there is memory for what happens in a cycle
+-- the wiring and the links are those of the network, there is an entry for each unit, and the sets
+-- say what is true of it. Processing elements that aren't awake are at rest. There is memory for
+-- what happens in a cycle
 pub record IsConsistentBlock (b : Block) : Type 0 where
   pub network : b.wiring ≡ b.net
   pub switches : length b.switches.items ≡ switch_count b.net

@@ -38,7 +38,7 @@ module _ (k : Limits) (s : State ℕ View) (h : IsBoardRule k s) (place : ℕ) (
   same : (f : View → ℕ) (w : View) → f w ≡ f v → total_over_views f (set s.views place w) ≡ total_over_views f s.views
   same f w q = total_over_views-set_same f s.views place v w e q
 
-  -- a number that claim hands out stands in no view
+  -- a number that claim hands out is in no view
   fresh : slice_index s.words 0 < k.limit → times (slice_index s.words 0) v.drawn ≡ 0
   fresh lt =
       let n = slice_index s.words 0 in

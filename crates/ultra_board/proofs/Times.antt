@@ -1,4 +1,4 @@
--- how often numbers stand in lists
+-- how often numbers occur in lists
 use Rattle.std.proofs.Common.{◌≡◌, ℕ, zero, suc, ◌+◌, ◌<◌, ◌≤◌, List, [], ◌∷◌, ◌++◌, Bool, true, false, length, refl, ap, arith, min, eq-eqb}
 use Rattle.std.proofs.lemmas.Bool.{eqb-true}
 use Rattle.std.proofs.lemmas.Bool.Decides.{nat_tests}
@@ -34,7 +34,7 @@ times_below-le i n = one_if-le (nat_lt i n)
 pub times_below-itself : (n : ℕ) → times_below n n ≡ 0
 times_below-itself n = grind (arith, nat_tests)
 
--- a number that a list contains stands there, and one that stands there is contained
+-- a number that a list contains occurs in it, and one that occurs in it is contained
 pub times-contained : (i : ℕ) (xs : List ℕ) → Contains xs i → 0 < times i xs
 times-contained i xs h = at_place i xs h.0 h.1 h.2
   where
@@ -82,7 +82,7 @@ unfolding without
 length-without i [] h = absurd (omega arith)
 length-without i (y ∷ ys) h = let c = length_case i y ys (y == i) h (length-without i ys) in omega arith
 
--- a list whose numbers all stand in another one as often is no longer
+-- a list is no longer than another one in which each of its numbers occurs at least as often
 pub length-within : (xs ys : List ℕ) → ((i : ℕ) → times i xs ≤ times i ys) → length xs ≤ length ys
 length-within [] ys h = omega arith
 length-within (x ∷ xs) ys h =

@@ -89,12 +89,12 @@ abbrev pub one_if : Bool → ℕ
 one_if true = 1
 one_if false = 0
 
--- how often a number stands in a list
+-- how often a number occurs in a list
 abbrev pub times : ℕ → List ℕ → ℕ
 times i [] = 0
 times i (k ∷ ks) = one_if (k == i) + times i ks
 
--- how often a number stands in the list of all numbers below n
+-- how often a number occurs in the list of all numbers below n
 abbrev pub times_below : ℕ → ℕ → ℕ
 times_below i n = one_if (nat_lt i n)
 

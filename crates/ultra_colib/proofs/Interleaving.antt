@@ -1,4 +1,6 @@
--- invariants of a program on the paracomputer, whatever the schedule: what holds at each place of the program, and what holds of the cells and of the phases that the processing elements are in
+-- Invariants of a program on the paracomputer, whatever the schedule. They say what holds at each
+-- place of the program, and what holds of the cells and of the phases that the processing elements
+-- are in.
 use Rattle.std.proofs.Common.{◌≡◌, ◌≢◌, ℕ, zero, suc, ◌+◌, ◌*◌, ◌<◌, ◌≤◌, List, [], ◌∷◌, length, Bool, true, false, refl, sym, ap, ◌∙◌, subst, arith}
 use Rattle.std.specs.Prelude.{All, Option, Some, None, slice_get, slice_set, slice_index, slice_index_or, sum_by, nat_lt, ◌==◌, ◌/◌, ◌^◌, bit_and, if◌then◌else◌, replicate}
 use Rattle.std.proofs.lemmas.Bool.{eq-eqb}
@@ -122,8 +124,9 @@ infixr 20 ◌▹◌
 pub ◌▹◌ : {A B : Type 0} → A → B → A × B
 a ▹ b = (a, b)
 
--- the settings; the kinds of phases, and the phase at first;
--- what holds of a processing element in a phase that is at a place with these registers; what holds of the cells and the phases
+-- the settings, the kinds of phases, and the phase at first. `Local` is what holds of a processing
+-- element in a phase that is at a place with these registers. `Global` is what holds of the cells
+-- and the phases
 module _ (c : Settings) (Φ : Type 0) (out : Φ) (Local : ℕ → ℕ → List ℕ → Φ → Type 0) (Global : List ℕ → List Φ → Type 0) where
   -- ---- what has to be shown of each instruction
   -- the processing element goes to a place, in some phase

@@ -116,7 +116,8 @@ Turns turn (takes j i r) = turn i ≡ 2 * r + 1
 Turns turn (taken j i r v) = turn i ≡ 2 * r + 1
 Turns turn (carries j i r v) = Unit {0}
 
--- ---- the queue as its proof sees it: beside indexes, turn words, data and results the value of each insert ticket, and for each result the delete ticket by which it was taken
+-- ---- the queue as its proof sees it: indexes, turn words, data and results. Beside these it has
+-- the value of each insert ticket, and for each result the delete ticket by which it was taken
 pub record Queue : Type 0 where
   pub insert_index : ℕ
   pub delete_index : ℕ
@@ -206,7 +207,9 @@ module _ (size places rounds : ℕ) where
   closes turn i r (taken j k s v) e d h = pick (λ (x : ℕ). x ≡ 2 * s + 1) turn i (2 * r + 2) k (λ a. let w = ap turn a in let x : s ≢ r = λ y. d (same_ticket k s i r a y) in absurd (omega arith)) (λ _. h)
   closes turn i r (carries j k s v) e d h = tt
 
-  -- what a phase of processing element p says beside its turn word, where n insert tickets and m delete tickets were drawn: so was its ticket; and the value of its insert ticket, or what it took, is where it is said to be
+  -- what a phase of processing element p says beside its turn word, where n insert tickets and m
+  -- delete tickets were drawn. Its ticket is one of these. The value of its insert ticket, or what
+  -- it took, is where it is said to be
   abbrev pub Owns : (n m : ℕ) (item value : ℕ → ℕ) (p : ℕ) → Phase → Type 0
   Owns n m item value p (idle j) = Unit {0}
   Owns n m item value p (inserts j i r) = (i < places) × (ticket i r < n) × (value (ticket i r) ≡ 1 + p + j * size)

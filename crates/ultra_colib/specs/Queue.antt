@@ -6,8 +6,8 @@ use Rattle.ultra_isa.specs.declared.Instr.TheVariants.{Set, Add, AddWord, Subtra
 use Rattle.ultra_colib.specs.Schedules.{CellWords, IsKeptBySchedules}
 
 -- cells 0 and 1 are the upper and the lower count of items, 2 and 3 the insert and the delete
--- index; 8 + i is the turn word of place i, 8 + 2 ^ z + i its data; the results are in the cells
--- from 8 + 2 * 2 ^ z on
+-- index. Cell 8 + i is the turn word of place i, and 8 + 2 ^ z + i its data. The results are in the
+-- cells from 8 + 2 * 2 ^ z on
 abbrev pub queue : ℕ → ℕ → List Instr
 queue z rounds =
     Number 1 ∷ AddWord 1 1 1 ∷ Size 2 ∷ Set 3 1 ∷ Set 4 (2 ^ z) ∷ Set 5 rounds ∷ Set 15 4294967295

@@ -14,8 +14,8 @@ ticket_rounds rounds =
     Set 2 1 ∷ Set 5 rounds
     ∷ Faa 1 0 2 ∷ Fence ∷ Subtract 5 5 2 ∷ JumpIfNotZero 5 2 ∷ Halt ∷ []
 
--- a processing element has a ticket from its first draw on: it has come as far as the draw, which
--- is the instruction at 2, and if it is at 2 it has fewer than all rounds left
+-- a processing element has a ticket from its first draw on. It has come as far as the draw, which
+-- is the instruction at 2. If it is at 2, it has fewer than all rounds left
 abbrev pub HasDrawn : ℕ → Para → ℕ → Type 0
 HasDrawn rounds s p =
     (2 ≤ (core_at s p).pc)

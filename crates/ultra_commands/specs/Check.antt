@@ -43,8 +43,8 @@ module _ (conf prog list : List ℕ) (old new : Traffic) where
     pub gave : GaveList settings program entries
     pub written : IsVerdictWritten settings program entries.list.items old.written new.written true
 
-  -- how a check ends otherwise: a file is refused and nothing is written; the list is no serial order
-  -- of the run, and the line of its first breach is written; or the line isn't written whole
+  -- how a check ends otherwise. A file is refused, and nothing is written. Or the list is no serial
+  -- order of the run, and the line of its first breach is written. Or the line isn't written whole
   pub data CheckFails (f : Failure) : Type 0 where
     refused : GaveNoThree (λ c. ExplainsList) conf prog list old.files new.files f
         → new.written ≡ old.written → CheckFails f

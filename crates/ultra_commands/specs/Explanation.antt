@@ -33,7 +33,7 @@ event_line c ks (Served k r reply now) = tree_line_of c k r.cell (tree_of r.pe r
 event_line c ks (Combined s x a p q f) = []
 event_line c ks (Issued r n) = []
 
--- the lines of several events of a cycle, one after the other, and the trees after them
+-- the lines of several events of a cycle, in order, and the trees after them
 abbrev pub event_lines : ℕ → List Kept → List Event → List ℕ
 event_lines c ks [] = []
 event_lines c ks (e ∷ es) = event_line c ks e ++ event_lines c (trees_after ks e) es

@@ -1,4 +1,4 @@
--- Cycles that are made one after another, and what workers are expected to give back.
+-- Cycles that are made in order, and what workers are expected to give back.
 use Rattle.std.proofs.Common.{◌≡◌, ℕ, zero, suc, ◌+◌, List, refl, arith, ap}
 use Rattle.ultra_isa.specs.declared.Instr.{Instr}
 use Rattle.ultra_model.specs.Machine.{Machine, Settings}

@@ -1,4 +1,4 @@
--- The blocks of all teams, taken out one after the other from the last one on.
+-- The blocks of all teams, taken out in order, from the last to the first.
 use Rattle.std.proofs.Common.{◌≡◌, ◌≢◌, ℕ, ◌+◌, ◌%◌, ◌<◌, ◌≤◌, List, [], ◌∷◌, ◌++◌, refl, arith, ap, ◌∙◌, sym, length, length-append, get_or, set, take, drop, reverse, ⊎_elim, Vec, Global}
 use Rattle.std.proofs.lemmas.Bool.{cases_eq}
 use Rattle.std.proofs.lemmas.List.{append-nil, drop_more, get_or-set_other, get_or-set_same, get_or_at, length-take-le, reverse-append, take_at, take_more}

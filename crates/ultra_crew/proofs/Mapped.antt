@@ -1,4 +1,4 @@
--- a list whose elements are changed one after the other
+-- a list whose elements are changed in order
 use Rattle.std.proofs.Common.{◌≡◌, ℕ, ◌+◌, ◌<◌, ◌≤◌, List, [], ◌∷◌, ◌++◌, arith, ap, ◌∙◌, sym, length, get_or, set, take, drop, append_assoc, subst, map, All}
 use Rattle.std.proofs.lemmas.List.{map-append, take_more, drop_more, set_at, get_or_at, length-map, length-take-le, take_all, drop_all, append-nil}
 

@@ -38,7 +38,7 @@ module _ (c : Settings) (n : ℕ) (f : Frame) (events : List Event) (faults : Li
   reply_room_is : (closed : List ℕ) → AreClosedToReplies d f closed → (s x : ℕ) → s < d → x < size c → not (has_unit closed (switch_number d s (x / 2))) ≡ has_reply_room c m s (x / 2)
   reply_room_is closed noted s x hs hx = grind (arith, two, number_small, replies_is)
 
-  -- where a request that comes to y goes by the port by which it leaves
+  -- whether there is room at the port by which a request that comes to y leaves
   request_room_is : (closed : Ports (List ℕ)) → AreClosedToRequests d f closed → (s y : ℕ) (r : Request) → s < d → y < size c → has_room_at closed d s (switch_number d s (y / 2)) r ≡ has_request_room c m s (request_exit c s y r)
   request_room_is closed noted s y r hs hy = let small = number_small d s (y / 2) hs (omega (arith, two)) in grind (arith, two, lane_is, noted.switches _ 0 small, noted.switches _ 1 small)
 
@@ -61,7 +61,8 @@ module _ (c : Settings) (n : ℕ) (f : Frame) (events : List Event) (faults : Li
       → at_port (at_switch d (λ s k. ports (leave s (2 * k) queues.zero) (leave s (2 * k + 1) queues.one)) (switch_number d s (x / 2))) (x % 2) ≡ leave s x (at_port queues (x % 2))
   by_port leave queues s x hx = grind (arith, div-mul-add, mod-mul-add, two)
 
-  -- messages are written on links: those that leave switches, and those that leave what stands behind all stages
+  -- messages are written on links: those that leave switches, and those that leave what is behind
+  -- all stages
   on_link : {X : Type 0} (from : ℕ → Ports X) (out : ℕ → X) {on : ℕ → X} → ((l : ℕ) → l < (d + 1) * 2 ^ d → on l ≡ on_links d from out l)
       → (s x : ℕ) → s < d → x < size c → on (link_number d s x) ≡ at_port (from (switch_number d s (x / 2))) (x % 2)
   on_link from out written s x hs hx =
@@ -99,7 +100,7 @@ module _ (c : Settings) (n : ℕ) (f : Frame) (events : List Event) (faults : Li
     lane_after_replies s x hs hx =
         grind (arith, lane_is, made_with as_sent reply_comes (λ s k. after_replies d s) s (x / 2) hs (omega (arith, two)), at_both (λ x j l. lane_after_reply l (arriving_reply c m s x)) (f.switch (switch_number d s (x / 2))).to_mm x)
 
-    -- what goes by y of what came to port j of its switch
+    -- what leaves by y of what came to port j of its switch
     made_at : (s y j : ℕ) → s < d → y < size c → j < 2
         → going_by d s (y % 2) (replies_made (at_port (f.switch (switch_number d s (y / 2))).to_mm j).lane.records (arriving_reply c m s (2 * (y / 2) + j))) ≡ replies_at_exit c m s (2 * (y / 2) + j) y
     made_at s y j hs hy hj = grind (arith, two, lane_is)

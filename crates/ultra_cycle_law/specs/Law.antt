@@ -34,9 +34,9 @@ module _ (d : ℕ) (f : Frame) where
 
 -- ---- a cycle
 
--- cycle n of a machine of d stages: its frames, before it and after each half, and what is noted to
--- have no room, at the start and after the memory has served. Each frame is the one before it after
--- a half
+-- cycle n of a machine of d stages: its frames, before it and after each half. It also has what is
+-- noted to have no room, at the start and after the memory has served. Each frame is the one before
+-- it after a half
 pub record HalvesOfCycle (d n : ℕ) (program : List Instr) : Type 0 where
   pub start : Frame
   pub no_reply_room : List ℕ

@@ -32,7 +32,7 @@ present_more n f =
     let next : suc n ≡ n + 1 = omega arith in
     ap (λ k. present (places k f)) next ∙ (ap (λ os. present os) (places_more n f) ∙ present-append (places n f) (f n ∷ []))
 
--- what a place gives stands in the list
+-- what a place gives is in the list
 present_at : {X : Type 0} (n : ℕ) (f : ℕ → Option X) (k : ℕ) (x : X) → k < n → f k ≡ Some x → Contains (present (places n f)) x
 present_at zero f k x h e = absurd (omega (arith, h))
 present_at (suc n) f k x h e =

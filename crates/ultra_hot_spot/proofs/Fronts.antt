@@ -1,4 +1,4 @@
--- the request on a line of the hot requests stands on its route
+-- the request on a line of the hot requests is on its route
 use Rattle.std.proofs.Common.{◌≡◌, ℕ, zero, suc, ◌+◌, ◌-◌, ◌<◌, ◌≤◌, true, arith, sym, subst, ◌∙◌, ap}
 use Rattle.ultra_msg.specs.declared.Request.{Request}
 use Rattle.ultra_route.specs.Route.{shuffled, unshuffled, bit_of, with_lowest, line_of, entry_of}

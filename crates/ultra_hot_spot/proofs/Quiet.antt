@@ -1,4 +1,5 @@
--- what the phases leave as it is: where no reply comes to a stage, where a module is idle, where no request stands before a stage
+-- what the phases leave as it is: where no reply comes to a stage, where a module is idle, where no
+-- request is before a stage
 use Rattle.std.proofs.Common.{◌≡◌, ℕ, ◌+◌, ◌-◌, ◌*◌, ◌/◌, ◌%◌, ◌<◌, List, [], ◌++◌, Bool, true, false, refl, arith, ◌∙◌, ap}
 use Rattle.std.specs.Prelude.{Option, Some, None, slice_get, ◌==◌}
 use Rattle.std.proofs.lemmas.Bool.{eqb-true}

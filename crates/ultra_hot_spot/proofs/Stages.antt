@@ -31,7 +31,7 @@ module _ (c : Settings) (a : ℕ) where
   abbrev pub is_on : ℕ → ℕ → Bool
   is_on s x = leads_to c.stages (module_of c a) s x
 
-  -- a processing element whose line to the cell goes by a line
+  -- a processing element whose line to the cell is line x before stage s
   pub record IsOn (s x p : ℕ) : Type 0 where
     pub small : p < size c
     pub line : line_of c.stages s p (module_of c a) ≡ x
@@ -104,7 +104,7 @@ module _ (c : Settings) (a n : ℕ) (asked : ℕ → Request) where
   abbrev pub held : ℕ → Option Placed
   held k = elim (is_on c a c.stages k) [ true ↦ Some (placed c (fronts c n asked c.stages k)) | false ↦ None ]
 
-  -- it stands before its module, and no other module has anything to do
+  -- it is before its module, and no other module has anything to do
   pub record IsInside (m : Machine) : Type 0 where
     pub clear : IsClear c a c.stages m
     pub left : HasLeft c.stages m
@@ -118,20 +118,20 @@ module _ (c : Settings) (a n : ℕ) (asked : ℕ → Request) where
     pub on : is_on c a s x ≡ true → (v : Reply) × (o ≡ Some record { pe = (fronts c n asked s x).pe; cell = a; reply = v })
     pub off : is_on c a s x ≡ false → o ≡ None
 
-  -- its reply stands behind its module, and no other does
+  -- its reply is behind its module, and no other reply is behind a module
   pub record IsServed (m : Machine) : Type 0 where
     pub calm : IsCalm c a m
     pub left : HasLeft c.stages m
     pub outputs : (k : ℕ) → k < size c → IsReplyOn c.stages k (module_at m k).out
     pub replies : (t y : ℕ) → t < c.stages → y < size c → replies_at m t y ≡ []
 
-  -- its replies stand before stage s, whose queues are empty and whose wait buffers hold its records
+  -- its replies are before stage s, whose queues are empty and whose wait buffers hold its records
   pub record AreComing (s : ℕ) (m : Machine) : Type 0 where
     pub come : (x : ℕ) → x < size c → IsReplyOn (s + 1) x (reply_before c m s x)
     pub room : (y : ℕ) → y < size c → replies_at m s y ≡ []
     pub records : (x : ℕ) → x < size c → Keeps a (left_behind s x) (lane_at m s x).records
 
-  -- its replies stand in the queues of stage s, and the stages on their way are empty
+  -- its replies are in the queues of stage s, and the stages on their way are empty
   pub record IsReturned (s : ℕ) (m : Machine) : Type 0 where
     pub calm : IsCalm c a m
     pub left : HasLeft s m

@@ -39,7 +39,7 @@ module _ (c : Settings) (program : List Instr) (n a : ℕ) where
   events_of k = (after c program (n + k + 1)).events
 
   -- in the cycles from n to n + 2d + 2 the memory serves one request for the cell, in cycle n + d +
-  -- 1; in the last of them each processing element is answered
+  -- 1. In the last of them each processing element is answered
   pub record AreServedAtOnce (served : Request) : Type 0 where
     pub once : (k : ℕ) → k ≤ 2 * c.stages + 2
         → acts_on a (events_of k) ≡ (if k == c.stages + 1 then served ∷ [] else [])

@@ -39,7 +39,7 @@ module _ (d n : ℕ) (asked : ℕ → Request) where
   record_of s x = wait_record (entry (old_of s x) false) (new_of s x)
 
   module _ (k : ℕ) where
-    -- the request on line x before stage s, if a hot request goes by that line
+    -- the request on line x before stage s, if a hot request uses that line
     abbrev pub on_line : ℕ → ℕ → Option Request
     on_line s x = elim (leads_to d k s x) [ true ↦ Some (front s x) | false ↦ None ]
 

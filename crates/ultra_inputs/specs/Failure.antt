@@ -59,7 +59,7 @@ abbrev pub line_fault_text : List ℕ → ℕ → List ℕ → List ℕ
 line_fault_text path l what =
     path_text path ++ codes "line " ++ decimal l ++ codes ": " ++ what ++ codes "\n"
 
--- why the words of the command line couldn't be had, by the kind of the error
+-- why the arguments couldn't be had, by the kind of the error
 abbrev pub failure_of_words : ErrorKind → Failure
 failure_of_words OutOfMemory = NoMemory
 failure_of_words _ = NotWords

@@ -5,7 +5,7 @@ use Rattle.ultra_io.specs.Account.{SinkState}
 use Rattle.ultra_inputs.specs.Failure.{text_of}
 use Rattle.ultra_inputs.specs.declared.failure.Failure.{Failure}
 
--- a stream: what it has taken, and how often it has failed
+-- a stream: what it has taken, and the number of its failures
 abbrev pub stream : List ℕ → ℕ → SinkState
 stream taken failures = record { taken = taken; failures = failures }
 

@@ -114,8 +114,8 @@ part_taken part bytes s t b f begins w =
 pub begins_within : (first part middle last : List ℕ) → IsPrefix part middle → IsPrefix (first ++ part) (first ++ (middle ++ last))
 begins_within first part middle last is = prefix_behind first part (middle ++ last) (prefix_more part middle last is)
 
--- a text that was written on a blank buffer has gone to the sink when the buffer is finished, or the
--- sink has failed once and has taken a prefix of it
+-- a text was written on a blank buffer, and the buffer is finished. The text has gone to the sink,
+-- or the sink has failed once and has taken a prefix of it
 finished_states : {T E : Type 0} (r : Result T E) (bytes : List ℕ) (s t : State) → s.waiting ≡ [] → s.failed ≡ false → Wrote bytes s t → OnOk r (t.waiting ≡ []) → OnOk r (t.failed ≡ false) → OnErr r (t.failed ≡ true)
     → HasGone r bytes s.taken t.taken s.failures t.failures
 finished_states (Ok x) bytes s t empty sound w none_left whole failed = record {

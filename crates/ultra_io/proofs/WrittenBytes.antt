@@ -1,4 +1,4 @@
--- texts among the bytes of a buffer, one after another
+-- texts among the bytes of a buffer, in order
 use Rattle.std.proofs.Common.{ℕ, List, ◌++◌, take, ◌∙◌, ap, arith, append_assoc, length-append}
 use Rattle.ultra_io.specs.FilledBytes.{IsWritten}
 

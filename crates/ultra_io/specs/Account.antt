@@ -26,7 +26,7 @@ failures_in (Took' m before byte) = failures_in before
 failures_in (Read' m before n path bytes) = failures_in before
 failures_in (Failed' m before) = failures_in before + 1
 
--- what an account says of a sink: the bytes that it took, and how often it failed
+-- what an account says of a sink: the bytes that it took, and the number of its failures
 pub record SinkState : Type 0 where
   pub taken : List ℕ
   pub failures : ℕ
@@ -34,7 +34,7 @@ pub record SinkState : Type 0 where
 abbrev pub sink_state : Account → SinkState
 sink_state a = record { taken = bytes_in a; failures = failures_in a }
 
--- what an account says of a source of files: the files that it gave, and how often it failed
+-- what an account says of a source of files: the files that it gave, and the number of its failures
 pub record SourceState : Type 0 where
   pub files : List File
   pub failures : ℕ

@@ -4,7 +4,7 @@ use Rattle.std.specs.Borrow.{MutBor}
 use Rattle.ultra_msg.specs.Bytes.{AreTakenOrWait, IsPrefix, TakesPrefix}
 use Rattle.ultra_io.specs.declared.text_buffer.TextBuffer.{TextBuffer}
 
--- what the sink has taken and how often it has failed, what waits in the buffer, and whether the
+-- what the sink has taken and the number of its failures, what waits in the buffer, and whether the
 -- sink has failed
 pub record State : Type 0 where
   pub taken : List ℕ
@@ -43,7 +43,7 @@ module _ {S : Type 0} where
     pub empty : take p.filled_bytes.filled p.filled_bytes.bytes ≡ []
     pub sound : p.failed ≡ false
 
--- of a buffer, whose sink reports what it has taken and how often it has failed
+-- of a buffer, whose sink reports what it has taken and the number of its failures
 module _ {S : Type 0} (taken : S → List ℕ) (failures : S → ℕ) where
   -- where the text in the buffer goes as far as a position
   abbrev pub state_at : TextBuffer S → ℕ → State

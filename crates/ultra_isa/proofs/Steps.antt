@@ -23,7 +23,9 @@ use Rattle.ultra_isa.specs.Step.{Core, Stepped, stays, faults, refers_as, refers
 abbrev pub newest : List Request → Option Request
 newest rs = slice_get rs (length rs - 1)
 
--- what a processing element with at most n open cells sends names itself and a cell that the memory has, which wasn't open and for which there was room; the interface after it is that of the issue, and else that before it
+-- what a processing element with at most n open cells sends. It names the processing element and a
+-- cell of the memory, which wasn't open and for which there was room. The interface after it is
+-- that of the issue. If nothing is sent, it is that before
 abbrev pub SendsInto : Site → ℕ → Interface → Interface → Option Request → Type 0
 SendsInto s most_open i j None = j ≡ i
 SendsInto s most_open i j (Some r) =

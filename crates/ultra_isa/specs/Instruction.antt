@@ -34,7 +34,7 @@ names (Swap d a b) = d ∷ a ∷ b ∷ []
 names Fence = []
 names Halt = []
 
--- what an instruction does: it sets a register, goes on at a program counter, refers to a cell with
+-- what an instruction does. It sets a register, goes on at a program counter, refers to a cell with
 -- the register for its answer, waits for the open cells, or halts
 pub data Effect : Type 0 where
   sets : ℕ → ℕ → Effect

@@ -1,4 +1,4 @@
--- the rows of open requests after several events, one after another
+-- the rows of open requests after several events, in order
 use Rattle.std.proofs.Common.{ℕ, ◌≡◌, ◌+◌, ◌<◌, List, [], ◌∷◌, ◌++◌, length, drop, drop-cons, add-one, get_or, refl, sym, ap, ◌∙◌, append_assoc, length-set, arith}
 use Rattle.std.specs.Prelude.{Option, option_to_list, slice_set}
 use Rattle.std.specs.List.{AllByRecursion}

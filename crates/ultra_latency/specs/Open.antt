@@ -104,9 +104,9 @@ module _ (c : Settings) (program : List Instr) (n : ℕ) where
   NameOpen rows [] = Unit {0}
   NameOpen rows (e ∷ es) = NamesOpen rows e × NameOpen (rows_with n rows e) es
 
--- the law of open requests: the events of a cycle make the next rows of these, they find their
--- places and name open requests, and their latencies by the rows are those of the cycle, at most one
--- a processing element
+-- the law of open requests. The events of a cycle make the next rows of these, find their places
+-- and name open requests. Their latencies by the rows are those of the cycle. There are at most 64
+-- of them
 pub record IsOpenLaw (c : Settings) (program : List Instr) (n : ℕ) : Type 0 where
   pub rows : rows_after n (open_rows c program n) (after c program (n + 1)).events
       ≡ open_rows c program (n + 1)

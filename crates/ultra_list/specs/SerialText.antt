@@ -38,7 +38,7 @@ pub record HasWords (e : Entry) : Type 0 where
   pub op : OfWord e.op
   pub reply : GivesWord e.reply
 
--- the text begins with the line of an entry, and goes on with the rest: the line ends with byte 10,
+-- the text begins with the line of an entry, and goes on with the rest. The line ends with byte 10,
 -- or with bytes 13 and 10, or the text ends with it
 abbrev pub BeginsWith : List ℕ → Entry → List ℕ → Type 0
 BeginsWith text e rest =

@@ -5,7 +5,8 @@ use Rattle.ultra_holders.specs.Holders.{numbers_in}
 use Rattle.ultra_holders.proofs.Skipped.{next_small, few_pass}
 use Rattle.ultra_measure.proofs.Gathered.{added, topmost, added_last, topmost_last}
 
--- of all numbers some came: the sum of their values of one kind, the most of another, and the sum of a third; the sums are at most 128 and 2 each
+-- of all numbers some came: the sum of their values of one kind, the most of another, and the sum
+-- of a third. The first sum is at most 128 for each number, and the other at most 2
 pub record AreCounted (value peak fulls : ℕ → ℕ) (all came left : List ℕ) (sum most full : ℕ) : Type 0 where
   pub sum_is : sum ≡ added value came
   pub most_is : most ≡ topmost peak came

@@ -97,7 +97,7 @@ module _ (c : Settings) (program : List Instr) (from to : ℕ) where
       ∷ (codes "latency_mean", mean_if (sum waited) (length waited))
       ∷ []
 
-  -- what stood where after each cycle
+  -- what was where after each cycle
   abbrev pub state_columns : List Column
   state_columns =
       (codes "running_sum", number (sum_over (size c) running))

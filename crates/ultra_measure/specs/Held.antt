@@ -16,7 +16,7 @@ use Rattle.ultra_block.specs.State.{BlocksState}
 abbrev pub running : Machine → ℕ → ℕ
 running m p = weight (not (has_stopped (element_at m p).core.activity))
 
--- its next step would stall, as the machine stands; one that has stopped doesn't stall
+-- its next step would stall, as the machine is now; one that has stopped doesn't stall
 abbrev pub stalled : Settings → List Instr → Machine → ℕ → ℕ
 stalled c program m p = weight (is_stall (step_at c program m p).was)
 

@@ -29,7 +29,7 @@ abbrev pub name_text : List ℕ → Option ℕ → List ℕ
 name_text name None = name
 name_text name (Some s) = of_stage name s
 
--- what is written of a column in front of which others stand
+-- what is written of a column that comes after others
 abbrev pub column_text : Form → Column → List ℕ
 column_text Lines i = line_if i.0 i.1
 column_text Values i = codes "," ++ text_if i.1

@@ -141,7 +141,7 @@ module _ (c : Settings) where
   pub reply_room : (m : Machine) (s y : ℕ) → has_reply_room c m s (y / 2) ≡ true → length (after_leaving (leaving_reply c m s y) (replies_at m s y)) + 4 ≤ c.reply_places
   reply_room m s y h = omega (arith, room_at m s y h, after_leaving_shorter (leaving_reply c m s y) (replies_at m s y))
 
-  -- of the reply that comes to a position at most two go by another
+  -- of the reply that comes to a position at most two leave by another
   pub exit_two : (m : Machine) (s x y : ℕ) → length (replies_at_exit c m s x y) ≤ 2
   exit_two m s x y =
       let made = made_two (lane_at m s x).records (arriving_reply c m s x) in

@@ -1,4 +1,5 @@
--- what holds of each element of a list, and what stands at a place of a list or table that is given place by place
+-- what holds of each element of a list, and what is at a place of a list or table that is given
+-- place by place
 use Rattle.std.proofs.Common.{◌≡◌, ℕ, List, [], ◌∷◌, ◌++◌, Bool, true, false, refl, arith, ap, ◌∙◌}
 use Rattle.std.specs.Prelude.{Option, Some, None, IfSome, slice_index_or, slice_get, ◌<◌, ◌+◌, zero, suc, map, drop, length}
 use Rattle.std.specs.List.{AllByRecursion, range_with_len}

@@ -80,7 +80,7 @@ marked_more n given x marks cells c m good is address word clear = record {
   words = All-push (λ (i : ℕ × ℕ). i.1 < 2 ^ 32) cells c m.words word;
 }
 
--- the next of the given pairs isn't a cell, or its cell stands before it
+-- the next of the given pairs isn't a cell, or its cell occurs before it
 pub refused_at : (n : ℕ) (given : List (ℤ × ℤ)) (k : ℕ) (d : ℤ × ℤ) → k < length given → (is_cell n (get_or given k d) ≡ false) ⊎ (is_given_value (initial_cell (get_or given k d)).0 (cells_of (take k given)) ≡ true) → are_initial n given ≡ false
 refused_at n given k d lt (inl h) = and_left _ _ (list_all_at (is_cell n) given k d lt h)
 refused_at n given k d lt (inr h) =
@@ -88,7 +88,7 @@ refused_at n given k d lt (inr h) =
     let cells : cells_of given ≡ cells_of (take k given) ++ initial_cell (get_or given k d) ∷ cells_of (drop (k + 1) given) = ap cells_of (sym whole) ∙ map-append initial_cell (take k given) _ in
     and_right _ _ (ap are_different cells ∙ different_not (cells_of (take k given)) (cells_of (drop (k + 1) given)) (initial_cell (get_or given k d)) h)
 
--- a cell whose mark is set stands before
+-- a cell whose mark is set occurs before
 pub named_again : (n : ℕ) (given : List (ℤ × ℤ)) (x : ℤ × ℤ) (marks : List Bool) (cells : List (ℕ × ℕ)) (c : ℕ × ℕ) → IsMarked n given marks cells → c ≡ initial_cell x → c.0 < n → get_or marks c.0 false ≡ true → is_given_value (initial_cell x).0 (cells_of given) ≡ true
 named_again n given x marks cells c m is address set =
     ap (λ (i : ℕ × ℕ). is_given_value i.0 (cells_of given)) (sym is) ∙ (ap (is_given_value c.0) (sym m.value) ∙ (sym (m.marked c.0 address) ∙ set))

@@ -109,7 +109,7 @@ module _ (c : Settings) (range : AreInRange c) (m : Machine) where
         let inner = count-append (reply_passes t) rest zero in
         rw (replies-reply_phase c m s y hs hy) (omega (arith, left, outer, inner))
 
-    -- the replies that come of a position go by its two neighbours
+    -- the replies that come of a position leave by its two neighbours
     pub two_exits : (s x k : ℕ) → x / 2 ≡ k → made s x ≡ exits s x (2 * k) + exits s x (2 * k + 1)
     two_exits s x k e =
         sym (count-filters (reply_passes t) (λ r. reply_exit c s x r == 2 * k) (λ r. reply_exit c s x r == 2 * k + 1) (replies_made (lane_at m s x).records (arriving_reply c m s x))

@@ -114,7 +114,7 @@ module _ (c : Settings) (range : AreInRange c) (m : Machine) where
         let left = count-leaving_request t (leaving_request c m s x) (lane_at m s x).queue (leaving_head s x hs hx) in
         rw (lane-request_phase c m s x hs hx) (omega (arith, come, order, left))
 
-    -- a request goes by one of two neighbours
+    -- a request leaves by one of two neighbours
     by_two : (s y k : ℕ) (o : Option Request) → y / 2 ≡ k → count (passes t) (requests_by c s y (2 * k) o) + count (passes t) (requests_by c s y (2 * k + 1) o) ≡ count_option (passes t) o
     by_two s y k None e = refl
     by_two s y k (Some r) e =

@@ -1,4 +1,5 @@
--- what worked runs speak of: what happened in the first cycles of a run, in which cycle, and what stands where between two cycles
+-- what worked runs speak of: what happened in the first cycles of a run, in which cycle, and what
+-- is where between two cycles
 use Rattle.std.specs.Prelude.{ℕ, zero, suc, ◌*◌, ◌%◌, ◌/◌, List, [], ◌∷◌, ◌++◌, Bool, true, false, map, Option, Some, None, slice_index}
 use Rattle.std.specs.List.{filter, range_with_len}
 use Rattle.ultra_msg.specs.declared.Request.{Request}
@@ -82,7 +83,7 @@ module _ (c : Settings) (program : List Instr) where
   quiet_cycles zero = []
   quiet_cycles (suc n) = quiet_cycles n ++ if_quiet n (is_quiet (after c program (suc n)))
 
--- ---- what stands where; places that are empty are left out
+-- ---- what is where; places that are empty are left out
 pub data Holding : Type 0 where
   pending : ℕ → List Request → Holding
   queued : ℕ → ℕ → List QueueEntry → Holding
@@ -113,7 +114,7 @@ holdings m =
     ++ by_number (λ k (b : ModuleState). if_some (leaving k) b.out) 0 m.modules
     ++ by_number (λ s (row : List (List ReplyMessage)). by_number (λ y rs. if_any (replying s y) rs) 0 row) 0 m.replies
 
--- numbers that are not 0, with where they stand
+-- numbers that are not 0, with where they are
 abbrev pub if_not_zero : ℕ → ℕ → List (ℕ × ℕ)
 if_not_zero k zero = []
 if_not_zero k (suc v) = (k, suc v) ∷ []
@@ -134,7 +135,8 @@ stand activity pc registers = record { activity = activity; pc = pc; registers =
 abbrev pub stands : Machine → List Stand
 stands m = map (λ (e : Element). stand e.core.activity e.core.pc (by_number (λ i v. if_not_zero i v) 0 e.core.registers)) m.elements
 
--- what happened in the first n cycles, after which of them the machine is quiet, and how it stands after them
+-- what happened in the first n cycles, after which of them the machine is quiet, and how it is
+-- after them
 pub record Summary : Type 0 where
   pub issues : List Dated
   pub meetings : List Dated

@@ -66,7 +66,7 @@ abbrev pub are_different : List (ℕ × ℕ) → Bool
 are_different [] = true
 are_different (i ∷ is) = not (is_given_value i.0 is) && are_different is
 
--- whether each pair is one of n cells with a word, and no cell stands twice
+-- whether each pair is one of n cells with a word, and no cell occurs twice
 abbrev pub are_initial : ℕ → List (ℤ × ℤ) → Bool
 are_initial cells is = list_all (is_cell cells) is && are_different (cells_of is)
 

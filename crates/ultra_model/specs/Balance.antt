@@ -75,7 +75,7 @@ module _ (t : ℕ → ℕ → Bool) where
     abbrev pub all_opened : ℕ
     all_opened = total (size c) (λ p. opened_by p (element_at m p))
 
--- whatever references are counted, as many messages are on their way as cells are open: so each
+-- whatever references are counted, as many messages are on their way as cells are open. So each
 -- open cell of a processing element has exactly one message or one record in which it is the
 -- partner, and each message belongs to an open cell. No cell is open twice
 pub record IsBalanced (c : Settings) (m : Machine) : Type 0 where

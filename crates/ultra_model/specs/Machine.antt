@@ -14,10 +14,10 @@ use Rattle.ultra_isa.specs.Step.{Core, fresh_core, has_stopped}
 use Rattle.ultra_model.specs.declared.Stop.{Stop}
 use Rattle.ultra_model.specs.Places.{places, table, in_table}
 
--- the settings: the stages of the network, the places of each queue toward memory, of each queue
--- toward the processing elements and of each wait buffer, the most open cells of a processing
--- element, the cells of a module, the most cycles, and the cells that are not 0 at first, with
--- their values
+-- the settings: the stages of the network, and the places of each queue toward memory, of each
+-- queue toward the processing elements and of each wait buffer. Then the maximum number of open
+-- cells per processing element, the cells of a module, the most cycles, and the cells that are not
+-- 0 at first, with their values
 pub record Settings : Type 0 where
   pub stages : ℕ
   pub request_places : ℕ
@@ -37,9 +37,9 @@ pub record Element : Type 0 where
 abbrev pub fresh_element : Element
 fresh_element = record { core = fresh_core; interface = empty_interface; issued = 0 }
 
--- the machine: the queue toward memory with its wait buffer for each stage and memory-side
--- position, the queue toward the processing elements for each stage and PE-side position, the
--- modules, the processing elements, the count of cycles, and what happened in the last cycle
+-- the machine: for each stage and memory-side position the queue toward memory with its wait
+-- buffer, and for each stage and PE-side position the queue toward the processing elements. Then
+-- the modules, the processing elements, the count of cycles, and what happened in the last cycle
 pub record Machine : Type 0 where
   pub lanes : List (List Lane)
   pub replies : List (List (List ReplyMessage))

@@ -1,5 +1,5 @@
 -- one cycle of the whole machine, as formulas over all parts at once; each phase reads the machine
--- as it stands at the phase's start. The routes are the 1983 paper's Omega network; the phases, the
+-- as it is at the phase's start. The routes are the 1983 paper's Omega network; the phases, the
 -- room rules and their order are this project's profile
 use Rattle.std.specs.Prelude.{ℕ, suc, zero, ◌+◌, ◌-◌, ◌*◌, ◌/◌, ◌%◌, List, [], ◌∷◌, ◌++◌, Bool, true, false, ◌&&◌, ◌==◌, nat_le, length, Option, Some, None, slice_get}
 use Rattle.std.specs.List.{filter}
@@ -62,7 +62,7 @@ abbrev pub without_pending : Element → Option Request → Element
 without_pending e o =
     record e { interface = record e.interface { pending = after_leaving o e.interface.pending } }
 
--- requests that arrive one after the other
+-- requests that arrive in order
 abbrev pub arrive_all : ℕ → Lane → List Request → Lane
 arrive_all wait_places l [] = l
 arrive_all wait_places l (r ∷ rs) = arrive_all wait_places (arrive wait_places l r) rs
@@ -127,7 +127,7 @@ module _ (c : Settings) where
         | false ↦ arriving_reply m (s - 1) (unshuffled c.stages y)
       ]
 
-  -- what becomes of the reply that arrives at x, and what of it goes by y
+  -- what becomes of the reply that arrives at x, and what of it leaves by y
   abbrev pub replies_at_exit : Machine → ℕ → ℕ → ℕ → List ReplyMessage
   replies_at_exit m s x y =
       filter (λ r. reply_exit c s x r == y)
@@ -215,7 +215,7 @@ module _ (c : Settings) where
   requests_by s y x None = []
   requests_by s y x (Some r) = elim (request_exit c s y r == x) [ true ↦ r ∷ [] | false ↦ [] ]
 
-  -- the request that comes to PE-side position y, if it goes by x
+  -- the request that comes to PE-side position y, if it leaves by x
   abbrev pub arrivals_by : Machine → ℕ → ℕ → ℕ → List Request
   arrivals_by m s y x = requests_by s y x (arriving_request m s y)
 

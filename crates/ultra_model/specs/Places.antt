@@ -25,7 +25,7 @@ present [] = []
 present (None ∷ xs) = present xs
 present (Some x ∷ xs) = x ∷ present xs
 
--- several lists, one after another
+-- several lists, joined in order
 abbrev pub joined : {X : Type 0} → List (List X) → List X
 joined [] = []
 joined (xs ∷ rest) = xs ++ joined rest

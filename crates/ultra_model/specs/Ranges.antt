@@ -7,9 +7,9 @@ use Rattle.ultra_pni.specs.declared.TheConstants.{MOST_OPEN}
 use Rattle.ultra_model.specs.declared.config.TheConstants.{MOST_REPLY_PLACES}
 use Rattle.ultra_model.specs.Machine.{Settings, size}
 
--- stages 1 to 6, places of a queue toward memory 2 to 32, of a queue toward the processing elements
--- 4 to 64, of a wait buffer 0 to 16, open cells 1 to 8, cells of a module 1 to 4096; the initial
--- cells are cells of the memory
+-- there are 1 to 6 stages. A queue toward memory has 2 to 32 places, one toward the processing
+-- elements 4 to 64, a wait buffer 0 to 16. The maximum number of open cells is 1 to 8, and a module
+-- has 1 to 4096 cells. The initial cells are cells of the memory
 pub record AreInRange (c : Settings) : Type 0 where
   pub some_stages : 1 ≤ c.stages
   pub most_stages : c.stages ≤ MOST_STAGES

@@ -1,4 +1,4 @@
--- every message stands on its route. The routes are those of the 1983 paper's Omega network
+-- every message is on its route. The routes are those of the 1983 paper's Omega network
 use Rattle.std.specs.Prelude.{◌≡◌, ℕ, ◌+◌, ◌*◌, ◌/◌, ◌%◌, ◌<◌, IfSome}
 use Rattle.std.specs.List.{AllByRecursion}
 use Rattle.ultra_msg.specs.declared.Request.{Request}
@@ -20,12 +20,12 @@ module _ (c : Settings) where
   abbrev pub module_of : ℕ → ℕ
   module_of a = a % size c
 
-  -- the line between p and the module of a goes by memory-side position x of stage s
+  -- the line between p and the module of a passes through memory-side position x of stage s
   pub record IsByLine (s x p a : ℕ) : Type 0 where
     pub reference : IsReference p a
     pub line : line_of c.stages (s + 1) p (module_of a) ≡ x
 
-  -- it goes by PE-side position y of stage s
+  -- it passes through PE-side position y of stage s
   pub record IsByEntry (s y p a : ℕ) : Type 0 where
     pub reference : IsReference p a
     pub entry : entry_of c.stages s p (module_of a) ≡ y

@@ -78,7 +78,7 @@ abbrev pub comma_separated : {X : Type 0} → (X → List ℕ) → List X → Li
 comma_separated text [] = []
 comma_separated text (x ∷ xs) = text x ++ flat_map (λ y. codes ", " ++ text y) xs
 
--- what stands before the entry at an index
+-- what is before the entry at an index
 abbrev pub separator : ℕ → List ℕ
 separator zero = []
 separator (suc n) = codes ", "

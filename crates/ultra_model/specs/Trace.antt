@@ -106,7 +106,7 @@ abbrev pub events_text : List Event → List Stop → List ℕ
 events_text events stops =
     flat_map got_line events ++ flat_map act_line events ++ flat_map fault_line stops
 
--- what stands where after the cycle
+-- what is where after the cycle
 abbrev pub state_text : Settings → Machine → List ℕ
 state_text c m =
     by_number (size c) (pni_lines m)

@@ -30,7 +30,7 @@ pub record AreTakenOrWait (bytes old waited new waits : List ℕ) : Type 0 where
   pub taken : new ≡ old ++ handed_on
   pub rest : handed_on ++ waits ≡ waited ++ bytes
 
--- pieces of bytes, one after the other
+-- pieces of bytes, joined in order
 abbrev pub in_a_row : List (Bor (List ℕ)) → List ℕ
 in_a_row pieces = flat_map (λ piece. piece.now) pieces
 

@@ -1,4 +1,6 @@
--- the paracomputer law: each cycle of the machine is some steps of the paracomputer, first those of the requests that act, in the order of the serial list, then those of the processing elements with no open cell
+-- the paracomputer law: each cycle of the machine is some steps of the paracomputer. First come
+-- those of the requests that act, in the order of the serial list, then those of the processing
+-- elements with no open cell
 use Rattle.std.proofs.Common.{◌≡◌, ℕ, zero, suc, ◌*◌, ◌<◌, ◌≤◌, List, [], ◌∷◌, ◌++◌, map, true, refl, arith, sym, ◌∙◌, ap, subst, inl, inr}
 use Rattle.std.specs.Prelude.{Option, Some, None, IfSome, All, ◌==◌}
 use Rattle.std.specs.List.{AllByRecursion}

@@ -54,7 +54,7 @@ module _ (c : Settings) (program : List Instr) where
     pub same : other ≡ now
     pub served : AreServed is list p issued
 
-  -- the request hasn't acted: on the paracomputer it stands before the operation
+  -- the request hasn't acted: on the paracomputer it is before the operation
   pub record IsAsking (is : List LoggedIssue) (list : List Done) (p : ℕ) (now : Core) (os : List OpenCell) (issued : ℕ) (other : Core) : Type 0 where
     pub waiting : IsWaiting is p now os issued
     pub same : other ≡ waiting.before

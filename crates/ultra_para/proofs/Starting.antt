@@ -1,4 +1,4 @@
--- the cells filled with the initial values, and the processors made, one after the other
+-- the cells filled with the initial values, and the processors made, in order
 use Rattle.std.proofs.Common.{◌≡◌, ◌≢◌, ℕ, zero, suc, ◌+◌, ◌*◌, ◌<◌, List, [], ◌∷◌, ◌++◌, true, false, refl, inl, inr, arith, ap, ◌∙◌, sym, length, get_or, set, replicate, map}
 use Rattle.std.specs.Prelude.{◌==◌, ◌⊎◌}
 use Rattle.std.specs.List.{range_with_len}

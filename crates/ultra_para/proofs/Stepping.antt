@@ -1,4 +1,5 @@
--- a step of a processing element: with no cell open the paracomputer makes it too, or it issues a request and the paracomputer waits with the operation; at a fence with an open cell it stalls
+-- a step of a processing element. With no cell open the paracomputer makes it too, or it issues a
+-- request and the paracomputer waits with the operation. At a fence with an open cell it stalls
 use Rattle.std.proofs.Common.{◌≡◌, ℕ, zero, suc, ◌+◌, ◌*◌, ◌<◌, ◌≤◌, List, [], ◌∷◌, ◌++◌, length, true, false, Bool, refl, arith, sym, ◌∙◌, ap, subst, ◌⊎◌, inl, inr, ⊎_elim}
 use Rattle.std.specs.Prelude.{Option, Some, None, IfSome, slice_get, slice_index, slice_index_or, slice_set}
 use Rattle.std.specs.List.{AllByRecursion}
@@ -238,7 +239,7 @@ module _ (c : Settings) (some_open : 1 ≤ c.most_open) (program : List Instr) (
       turn (inr (inl s)) = fence_turn s.waiting (λ none. inr (inl (still_asks none now i.opened s)))
       turn (inr (inr s)) = fence_turn s.waiting (λ none. inr (inr (still_acted none now i.opened s)))
 
--- ---- all processing elements, one after another
+-- ---- all processing elements, in order
 module _ (c : Settings) (program : List Instr) (is later : List LoggedIssue) (list : List Done) (cells : Cells) (e u : ℕ → Element) where
   abbrev pub Turns : ℕ → Core → Type 0
   Turns p q = ((alone c program p q).sent ≡ None) × State c program later list p (u p).core (u p).interface.opened (u p).issued (alone c program p q).core ⊎ State c program later list p (u p).core (u p).interface.opened (u p).issued q

@@ -18,7 +18,7 @@ pub record Para : Type 0 where
 abbrev pub core_at : Para → ℕ → Core
 core_at m p = slice_index_or m.cores p fresh_core
 
--- a step of the machine's processing element while no cell is open: no register is awaited, no
+-- a step of the machine's processing element while no cell is open. No register is awaited, no
 -- issue is refused, and a fence has nothing to wait for, so it never stalls
 abbrev pub alone_at : Site → List Instr → Core → Stepped
 alone_at s program core = step_of s 1 program core empty_interface

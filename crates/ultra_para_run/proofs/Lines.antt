@@ -95,7 +95,7 @@ module _ (size : ℕ) where
       let parts = and_parts _ _ h in
       All-append (λ p. p < size) (line_pes l) (flat_map line_pes ls) (words_below (schedule_words l) parts.0) (lines_below ls parts.1)
 
--- ---- the words of a line, as a loop takes them; `code` is what stands before the comment
+-- ---- the words of a line, as a loop takes them; `code` is what is before the comment
 module _ (size : ℕ) (line code : List ℕ) (same : code ≡ before_first begins_schedule_comment line) {S : Type 0} {steps : S → Option Lent → S → Type 0} {s : S} (xs : List Lent) (t : S) (y : Yields steps s xs t) (r : Option Lent) (u : S) (step : steps t r u) (road : YieldsList steps (λ (w : Lent). w.now) s (words_of code)) where
   abbrev ws : List (List ℕ)
   ws = schedule_words line

@@ -4,7 +4,7 @@ use Rattle.std.proofs.Common.{◌≡◌, ◌≢◌, ℕ, zero, suc, ◌+◌, ◌
 use Rattle.ultra_partition.proofs.Common.{cases_lt, get_or-append_right, get_or_append_left, All-from_recursion, filter-append, AllByRecursion, range_with_len, present, each-append, same_places, joined_next, joined_none, block_at, BlockState, value_or, home, AreMerged, InRanks, AreBlocks, MergedLaw, Lane, arrive, combinations, switch_number, combinations_of, Request, Ports, Switch, event_rank, stop_rank, places, joined, merged, of_rank, merged_alone, of_rank_none, events_of, stops_of, list_of, entries_before}
 use Rattle.ultra_partition.proofs.{Columns.same_entries, Units.Sort, Units.at_home, Units.away, Units.home_small}
 
--- what units list, one after another, where only n of them behind others list anything
+-- what units list, in order, where only n of them behind others list anything
 listed_by_sort : {T E : Type 0} (listed : ℕ → T → List E) (t : T) (before n : ℕ) (g : ℕ → List E) → ((i : ℕ) → i < before → listed i t ≡ []) → ((i : ℕ) → before + n ≤ i → listed i t ≡ [])
     → ((i : ℕ) → i < n → listed (before + i) t ≡ g i) → (m : ℕ) → entries_before listed m t ≡ joined (places (min (m - before) n) g)
 unfolding entries_before
@@ -108,8 +108,8 @@ module _ (d : ℕ) (partition : List ℕ) (bs : List BlockState) (blocks : AreBl
     pub number : (i : ℕ) → sort.number d 0 + i ≡ sort.number d i
     pub same : (i : ℕ) (b : BlockState) → i < sort.count d → entries (sort.number d i) (see b) ≡ list_of list i (sort.at b i, on i b)
 
-  -- of the units of a sort that stand in a block it lists what `list` says, by what is on their links. Of the
-  -- machine's units that is what `g` says, and has the rank of the unit
+  -- of the units of a sort that are in a block it lists what `list` says, by what is on their
+  -- links. Of the machine's units that is what `g` says, and has the rank of the unit
   module _ {X L E : Type 0} (rank : E → ℕ) (low base : ℕ) (from : low ≤ base) (sort : Sort X) (on : ℕ → BlockState → L) (list : ℕ → X → L → List E) (g : ℕ → List E) where
     abbrev at : ℕ → ℕ
     at i = home partition (sort.number d i)

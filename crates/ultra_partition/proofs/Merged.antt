@@ -38,7 +38,7 @@ module _ {X : Type 0} where
   none_joined f a zero none = refl
   none_joined f a (suc n) none = grind (arith, none_joined f (a + 1) n none)
 
-  -- the first element stands at place r, and goes
+  -- the first element is at place r, and goes
   first_joined : (f g : ℕ → List X) (x : X) (r a n : ℕ) → ((i : ℕ) → i ≢ r → f i ≡ g i) → f r ≡ x ∷ g r → ((i : ℕ) → i < r → f i ≡ [])
       → joined_from a n f ≡ cond (nat_le a r && nat_lt r (a + n)) (x ∷ joined_from a n g) (joined_from a n g)
   first_joined f g x r a zero others here none = grind (arith, nat_tests)

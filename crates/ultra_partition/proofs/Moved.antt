@@ -118,7 +118,7 @@ module _ (kind : MessageKind) where
   pub nothing_moved : (bs : List BlockState) → AreSingle kind bs → OnlyMove kind bs bs
   nothing_moved bs single = grind (arith, with_own)
 
-  -- ---- what block k has on the inlets p of unit n goes to the block in which that stands
+  -- ---- what block k has on the inlets p of unit n goes to the block in which that is
   module _ (d : ℕ) (low : 1 ≤ d) (high : d ≤ 6) (partition : List ℕ) (bs : List BlockState) (k n : ℕ) (p : Ports ℕ) (is : inlets kind d n ≡ Some p)
       (k_within : k < length bs) (h_within : home partition n < length bs) (apart : home partition n ≢ k) (long : length (link_table kind (block_at bs (home partition n))) ≡ (d + 1) * 2 ^ d) where
     abbrev h : ℕ
@@ -168,7 +168,8 @@ module _ (d : ℕ) (partition : List ℕ) (bs now : List BlockState) where
   alike Requests g only was =
       let links : (l : ℕ) → (frame_of d partition now).requests l ≡ (frame_of d partition bs).requests l = only.links in grind (arith, same_entries)
 
--- what a block has for units elsewhere is gone up to a number, if nothing leaves it from where it was gone
+-- a block has nothing for units elsewhere with numbers below `to`, if it has nothing for those
+-- below `from`, and nothing leads from it to those from `from` on
 pub gone_until : (kind : MessageKind) (d : ℕ) (partition : List ℕ) (old bs : List BlockState) (k from to : ℕ) (x : BlockState) → OnlyMove kind old bs → IsCut d partition old → k < length old
     → (let b = get_or bs k x in AllStayWithin (link_table kind b) (inlets kind b.stages) b from to) → ((n : ℕ) → n < from → n < unit_count d → HasNoneFor kind d partition bs k n)
     → (n : ℕ) → n < to → n < unit_count d → HasNoneFor kind d partition bs k n

@@ -11,7 +11,7 @@ any_home : (p : BlockState → Bool) (q : Bool) (h : ℕ) (bs : List BlockState)
 any_home p false h bs is within = list_any_none p bs (All-from_get_or (λ b. p b ≡ false) bs no_block (grind arith))
 any_home p true h bs is within = list_any_at p bs h no_block (within refl) (grind (arith, itself, within))
 
--- ---- rooms: a unit is noted by the block in which it stands
+-- ---- rooms: a unit is noted by the block in which it is
 -- what some blocks of a machine of d stages have noted
 pub record HaveNoted (d : ℕ) (bs : List BlockState) (rooms : Rooms) : Type 0 where
   pub replies : (n : ℕ) → n < switch_count d → has_unit rooms.no_reply_room n ≡ list_any (λ b. if_here (λ w. not (has_reply_room w)) (own_switch b.switches n)) bs
@@ -33,11 +33,11 @@ module _ (d : ℕ) (partition : List ℕ) (bs : List BlockState) (are : AreBlock
   rooms_are rooms have =
       let switches_pass = any_passes switches in grind (arith, switches_pass (λ w. not (has_reply_room w)), switches_pass (λ w. not (has_request_room w).zero), switches_pass (λ w. not (has_request_room w).one), any_passes modules (λ memory_module. is_some memory_module.inp))
 
--- in a machine that stands in one block its own rooms are all there are
+-- where a machine is one block, the rooms of that block are all there are
 pub own_are_all : (b : BlockState) (rooms : Rooms) → AreOwnRooms b rooms → AreRoomsOfAll (b ∷ []) rooms
 own_are_all b rooms own = λ d partition are. rooms_are d partition (b ∷ []) are rooms (let nowhere = none_there 5 in let stages = are.cut.stages 0 in grind arith)
 
--- ---- which units hold something, as blocks say it one after another
+-- ---- which units hold something, as the blocks say it in order
 module _ (c : Settings) (partition : List ℕ) (bs : List BlockState) (are : AreBlocks c.stages partition bs) (n : ℕ) (events : List Event) (stops : List Stop) (held : Held) where
   abbrev whole_holds : ℕ → Bool
   whole_holds u = holds c.stages (whole c (frame_of c.stages partition bs) n events stops) held u

@@ -29,8 +29,9 @@ module _ {c : Settings} {partition : List ℕ} {n : ℕ} {program : List Instr} 
   of_kind Replies = first
   of_kind Requests = middle
 
-  -- what is known of blocks in the course of a cycle: n cycles are done; they have listed what has happened so far, in the
-  -- ranks below `top`, a block at most two events for each of these; and no stops
+  -- what is known of blocks in the course of a cycle. n cycles are done. The blocks have listed
+  -- what has happened so far, in the ranks below `top`, a block at most two events for each of
+  -- these; and no stops
   pub record Known (top : ℕ) (listed_by : BlockState → List Event) (stops_by : BlockState → List Stop) (so_far : List Event) (bs : List BlockState) : Type 0 where
     pub blocks : AreBlocks d partition bs
     pub runs : OfEach (λ b. b.program ≡ program) bs
@@ -113,7 +114,7 @@ module _ {c : Settings} {partition : List ℕ} {n : ℕ} {program : List Instr} 
   pub left_single : {kind : MessageKind} {bs : List BlockState} → Left kind bs → AreSingle kind bs
   left_single x = x.single
 
-  -- ---- they are exchanged; where all units stand in one block, each is in its block
+  -- ---- they are exchanged; where all units are in one block, each is in its block
   pub come : {kind : MessageKind} {sent now : List BlockState} {e : ℕ} → OnlyMove kind sent now → AreThere kind e partition now → e ≡ d → Left kind sent → Come kind now
   come only there net x = record { sent = _; left = x; only = only; there = rw (← net) there }
 

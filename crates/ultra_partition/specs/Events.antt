@@ -4,9 +4,9 @@ use Rattle.ultra_partition.specs.Prelude.{switch_number, module_number, element_
 use Rattle.ultra_partition.specs.Cut.{BlockState}
 use Rattle.ultra_topology.specs.declared.TheConstants.{MOST_UNITS}
 
--- the order in which the rules list what happens in a cycle of a machine of d stages: deliveries by
--- processing element, servings by module, combinations by switch, issues by processing element.
--- Each of the four has a rank for each unit
+-- the order in which the rules list what happens in a cycle of a machine of d stages. Deliveries
+-- are by processing element, servings by module, combinations by switch, issues by processing
+-- element. Each of the four has a rank for each unit
 abbrev pub event_rank : ℕ → Event → ℕ
 event_rank d (Delivered r) = element_number d r.pe
 event_rank d (Served m r reply now) = MOST_UNITS + module_number d m

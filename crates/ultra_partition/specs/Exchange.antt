@@ -51,7 +51,7 @@ pub record OnlyMove (kind : MessageKind) (old now : List BlockState) : Type 0 wh
   pub links : (l : ℕ) → first (on_each kind now l) ≡ first (on_each kind old l)
   pub single : AreSingle kind now
 
--- block k has no message that leads to unit n, unless it stands there
+-- block k has no message that leads to unit n, unless the unit is there
 abbrev pub HasNoneFor : MessageKind → ℕ → List ℕ → List BlockState → ℕ → ℕ → Type 0
 HasNoneFor kind d partition bs k n =
     home partition n ≢ k → AreEmpty (link_table kind (block_at bs k)) (inlets kind d n)

@@ -14,13 +14,13 @@ module _ {T : Type 0} (rank : T → ℕ) where
   unfoldable pub merged : ℕ → List (List T) → List T
   merged count lists = joined (places count (λ i. of_rank i (joined lists)))
 
-  -- entries stand in the order of their ranks, which are below a bound
+  -- entries are in the order of their ranks, which are below a bound
   pub record IsRanked (count : ℕ) (entries : List T) : Type 0 where
     pub ascends : IsNonDecreasingBy rank entries
     pub within : All (λ e. rank e < count) entries
 
-  -- of the first n lists, list `place` has the entry that comes next: one of this rank stands first
-  -- there, the lists before it have greater ranks only, and from it on no list has a smaller one
+  -- of the first n lists, list `place` has the entry that comes next. One of this rank is first
+  -- there. The lists before it have greater ranks only, and from it on no list has a smaller one
   pub record IsNextPlace (lists : List (List T)) (n place r : ℕ) : Type 0 where
     pub within : place < n
     pub entry : T

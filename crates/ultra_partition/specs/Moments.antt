@@ -17,8 +17,9 @@ abbrev pub machine_in : Settings → List ℕ → ℕ → List BlockState → Ma
 machine_in c partition n bs =
     whole c (frame_of c.stages partition bs) n (events_of c.stages bs) (stops_of c.stages bs)
 
--- between two cycles: each block runs the program and has made n, they make up a machine that is
--- sound, no message is on a link, and each block lists what happened last in the order of the rules
+-- between two cycles: each block runs the program and has made n cycles. The blocks make up a
+-- machine that is sound. No message is on a link, and each block lists what happened last in the
+-- order of the rules
 pub record AreWhole (c : Settings) (program : List Instr) (partition : List ℕ) (n : ℕ)
     (bs : List BlockState) : Type 0 where
   pub machine :

@@ -36,7 +36,7 @@ pending_at i n place o r latest after within there =
 abbrev before_latest : Interface → ℕ
 before_latest i = length i.opened - length i.pending
 
--- so a cell for which none is pending stands before them
+-- so a cell for which none is pending is before them
 pub stands_before : (i : Interface) (a place : ℕ) (o : OpenCell) (r : Request) → length i.pending ≤ length i.opened → pending_cells i ≡ drop (before_latest i) (open_cells i)
     → place < length i.opened → ((get_or i.opened place o).cell == a) ≡ true → is_pending a i.pending ≡ false → place < before_latest i
 stands_before i a place o r few latest within is none =

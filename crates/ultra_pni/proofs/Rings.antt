@@ -9,7 +9,7 @@ pub length-requests_from : (xs : List Request) (first n : ℕ) → length (reque
 length-requests_from xs first zero = refl
 length-requests_from xs first (suc n) = ap suc (length-requests_from xs (first + 1) n)
 
--- only the place matters, not how often the ring was gone round
+-- only the place matters, not the number of rounds
 pub same_place : (xs : List Request) (a b n : ℕ) → a % 8 ≡ b % 8 → requests_from xs a n ≡ requests_from xs b n
 same_place xs a b zero same = refl
 same_place xs a b (suc n) same =

@@ -29,8 +29,8 @@ open_cells i = map (λ o. o.cell) i.opened
 abbrev pub pending_cells : Interface → List ℕ
 pending_cells i = map (λ r. r.cell) i.pending
 
--- what is true of every interface: at most `most_open` cells are open, no more requests are pending
--- than cells are open, these are for the cells that were opened last, and no cell is open twice
+-- what is true of every interface: at most `most_open` cells are open, and no more requests are
+-- pending than cells are open. These are for the cells that were opened last. No cell is open twice
 pub record IsWithin (i : Interface) (most_open : ℕ) : Type 0 where
   pub small : most_open ≤ MOST_OPEN
   pub opened : length i.opened ≤ most_open

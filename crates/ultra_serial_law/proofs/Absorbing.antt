@@ -1,4 +1,5 @@
--- where trees can absorb each of several events at first, they can absorb them one after the other, if each reference is named at most once
+-- where trees can absorb each of several events at first, they can absorb them in order, if each
+-- reference is named at most once
 use Rattle.std.proofs.Common.{◌≡◌, ◌≢◌, ℕ, ◌+◌, ◌≤◌, List, [], ◌∷◌, ◌++◌, Bool, true, false, refl, arith, sym, subst, inl, inr, ⊎_elim}
 use Rattle.std.specs.Prelude.{Option, Some, None, IsSome, IfSome}
 use Rattle.std.specs.List.{AllByRecursion}
@@ -26,7 +27,7 @@ pub serve_trees-append : (P : Tree → Type 0) (es fs : List Event) (ks : List K
 serve_trees-append P [] fs ks h k = k
 serve_trees-append P (e ∷ es) fs ks h k = (h.0, serve_trees-append P es fs (trees_after ks e) h.1 k)
 
--- what holds of each that stands in a list
+-- what holds of each that is in a list
 pub each_member : {X : Type 0} (P Q : X → Type 0) (xs : List X) → ((x : X) → IsIn x xs → P x → Q x) → AllByRecursion P xs → AllByRecursion Q xs
 each_member P Q [] f h = tt
 each_member P Q (x ∷ xs) f h = (f x (inl refl) h.0, each_member P Q xs (λ y i g. f y (inr i) g) h.1)

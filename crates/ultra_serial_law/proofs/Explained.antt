@@ -1,4 +1,5 @@
--- what the messages of a machine say, by their trees: a request sends what its tree sends, a reply answers the leaves of its tree, a record gives as its pair does
+-- what the messages of a machine say, by their trees. A request sends what its tree sends, a reply
+-- answers the leaves of its tree, a record gives as its pair does
 use Rattle.std.proofs.Common.{◌≡◌, ℕ, suc, ◌<◌, ◌≤◌, List, [], ◌∷◌, ◌++◌, Bool, true, false, arith, ◌⊎◌, inl, inr}
 use Rattle.std.specs.Prelude.{Some, IfSome}
 use Rattle.std.specs.List.{AllByRecursion}
@@ -16,7 +17,7 @@ use Rattle.ultra_serial_law.specs.Legal.{Entry as Done, answered_by}
 use Rattle.ultra_serial_law.proofs.Series.{sent, to_old, to_new}
 use Rattle.ultra_serial_law.proofs.Forest.{built}
 
--- x stands in the list
+-- x is in the list
 abbrev pub IsIn : {X : Type 0} → X → List X → Type 0
 IsIn x [] = ⊥
 IsIn x (y ∷ ys) = (y ≡ x) ⊎ IsIn x ys
@@ -30,7 +31,7 @@ pub in-append_right : {X : Type 0} (x : X) (xs ys : List X) → IsIn x ys → Is
 in-append_right x [] ys h = h
 in-append_right x (z ∷ xs) ys h = inr (in-append_right x xs ys h)
 
--- the leaves of a tree, answered as its own reply says, stand in a serial list
+-- the leaves of a tree, answered as its own reply says, are in a serial list
 abbrev pub IsExplained : List Done → Tree → Reply → Type 0
 IsExplained list (leaf l) r = IsIn (answered_by l r) list
 IsExplained list (pair s x old new f) r = IsExplained list old (to_old old new r) × IsExplained list new (to_new old new r)

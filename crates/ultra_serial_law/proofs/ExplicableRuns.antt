@@ -154,7 +154,7 @@ module _ (c : Settings) (range : AreInRange c) (program : List Instr) where
         let now = ap (λ ks. kept_passing t ks) (noted_trees n sent h3) in
         omega (arith, few3 t, kept, none, now, requests_issued t c range program n moved h3 w3)
 
-    -- ---- one after the other
+    -- ---- in order
     at1 : trees_noted deliveries_now h.trees ≡ h1.trees
     at1 = sym (noted_trees n deliveries_now h)
 

@@ -63,7 +63,7 @@ module _ (c : Settings) (range : AreInRange c) (a n : ℕ) (asked : ℕ → Requ
     abbrev kept : WaitRecord
     kept = record_of c.stages n asked s x
 
-    -- its record stands first in its wait buffer
+    -- its record is first in its wait buffer
     is_its : is_reference old.pe a kept.pe kept.cell ≡ true
     is_its = rw (front_cell c range a n asked each s (unshuffled c.stages (first_port c.stages n asked s x)) (old_small c range a n asked each s x hx), itself old.pe, itself a) refl
 

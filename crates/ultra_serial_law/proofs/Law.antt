@@ -78,7 +78,7 @@ module _ (c : Settings) (n : ℕ) (m : Machine) (h : History) (w : IsSerial c n 
   answer_of : (x : LoggedAnswer) → Has h.log.answers x → IsAnsweredWell h.log.issues list x
   answer_of x k = in_holds (IsAnsweredWell h.log.issues list) x h.log.answers w.answers (in_has h.log.answers x k)
 
-  -- the entry of an answer stands in the list
+  -- the entry of an answer is in the list
   entry_has : (x : LoggedAnswer) (g : IsAnsweredWell h.log.issues list x) → (k : ℕ) × (slice_get g.before k ≡ Some g.entry) × (slice_get list k ≡ Some g.entry)
   entry_has x g =
       let at = has_in g.before g.entry g.stands in

@@ -194,7 +194,7 @@ module _ (c : Settings) (range : AreInRange c) (m : Machine) (shape : HasShape c
           log = g.log;
         }
 
-    -- ---- all modules, one after another
+    -- ---- all modules, in order
     input_of : (i : Option Placed) (o : Option ReplyMessage) (p : Placed) → elim o [ None ↦ i | Some r ↦ None ] ≡ Some p → i ≡ Some p
     input_of i None p e = e
     input_of i (Some r) p e = absurd cc
@@ -293,7 +293,7 @@ module _ (c : Settings) (range : AreInRange c) (m : Machine) (shape : HasShape c
           let grown_list : list ++ acted.grows.0 ≡ now = ap (λ es. es ++ acted.grows.0) is_list ∙ sym acted.grows.1 in
           subst (λ es. IsExplained es (built c after is k r.pe r.cell) r.reply) grown_list (subst (λ u. IsExplained (list ++ acted.grows.0) u r.reply) (sym (same_tree k r.pe r.cell)) more)
 
-      -- no act is of a request that stands elsewhere
+      -- no act is of a request that is elsewhere
       not_named : (p a : ℕ) → p < size c → 1 + total (size c) (λ k. module_on_way (is_reference p a) (module_at m k)) ≤ on_way (is_reference p a) c m → mentions (is_reference p a) all_served ≤ 0
       not_named p a hp l =
           let t = is_reference p a in

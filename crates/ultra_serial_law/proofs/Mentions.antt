@@ -67,7 +67,7 @@ sum-table g m n f =
     ∙ (sum-places (λ xss. sum_of (λ xs. sum_of g xs) xss) m (λ s. places n (λ x. f s x))
     ∙ total_same m _ _ (λ s l. sum-places (λ xs. sum_of g xs) n (λ x. f s x))))
 
--- ---- what stands in these lists
+-- ---- what is in these lists
 pub in-joined : {X : Type 0} (x : X) (xs : List X) (xss : List (List X)) → IsIn x xs → IsIn xs xss → IsIn x (joined xss)
 in-joined x xs [] h k = absurd k
 in-joined x xs (ys ∷ yss) h (inl e) = in-append x ys (joined yss) (subst (λ zs. IsIn x zs) (sym e) h)

@@ -1,4 +1,5 @@
--- every leaf was issued, and no name stands twice among the leaves that were served and those of the kept trees
+-- every leaf was issued, and no name occurs twice among the leaves that were served and those of
+-- the kept trees
 use Rattle.std.proofs.Common.{◌≡◌, ℕ, ◌+◌, ◌≤◌, List, [], ◌∷◌, ◌++◌, Bool, true, false, refl, arith, inl}
 use Rattle.std.specs.Prelude.{Option, Some, None}
 use Rattle.std.specs.List.{AllByRecursion}

@@ -23,7 +23,7 @@ use Rattle.ultra_serial_law.proofs.Answered.{DeliversWell, IsNoDelivery, same_an
 use Rattle.ultra_serial_law.proofs.Lists.{has_in, get_left, each_replayed}
 use Rattle.ultra_serial_law.proofs.Law.{IsSerial, list_of, deliveries as delivered_now, delivers_well, any_delivery, servings, each_serving, meetings, each_meeting, issues_of, events_of, serial_after}
 
--- ---- one after another
+-- ---- in order
 answers_append : (is : List LoggedIssue) (ds es : List Delivery) (xs ys : List LoggedAnswer) → AreAnswersOf is ds xs → AreAnswersOf is es ys → AreAnswersOf is (ds ++ es) (xs ++ ys)
 answers_append is [] es [] ys h g = g
 answers_append is [] es (a ∷ xs) ys h g = absurd h

@@ -118,7 +118,7 @@ module _ (c : Settings) (range : AreInRange c) (m : Machine) (w : IsRouted c m) 
   even : IsBalanced c after
   even = replies.balanced-reply_phase c range m w b
 
-  -- ---- what arrives at a stage stands there afterwards
+  -- ---- what arrives at a stage is there afterwards
   module _ (t : ℕ → ℕ → Bool) where
     came : (s : ℕ) → s < c.stages → comes c range m t s ≤ stage_replies t c after s
     came s h =
@@ -133,7 +133,7 @@ module _ (c : Settings) (range : AreInRange c) (m : Machine) (w : IsRouted c m) 
   abbrev Unmoved : ℕ → ℕ → ℕ → Type 0
   Unmoved p a s = comes c range m (is_reference p a) s ≤ 0
 
-  -- nothing of a reference arrives where it stands elsewhere afterwards
+  -- nothing of a reference arrives where it is elsewhere afterwards
   still_lanes : (p a s i : ℕ) → p < size c → s < c.stages → i < c.stages → 1 ≤ lanes_of (is_reference p a) c after s → Unmoved p a i
   still_lanes p a s i hp hs hi l =
       let t = is_reference p a in

@@ -344,7 +344,7 @@ module _ (c : Settings) (range : AreInRange c) (m : Machine) (w : IsRouted c m) 
           (λ e counts h. entry_after s x e hs hx h.0 counts h.1)
           (each_and (IsEntryAt c s x) (Said s x (next_lane c m s x) (combined_at s x)) (next_lane c m s x).queue (rw (lane-request_phase c m s x hs hx) at (routed.requests s x hs hx)) (said s x hs hx))
 
-      -- ---- what stands outside the lanes
+      -- ---- what is outside the lanes
       lanes_empty : (p a : ℕ) → p < size c → 1 + total c.stages (λ s. lanes_of (only p a) c after s) ≤ on_way (only p a) c after → (total c.stages (λ s. lanes_of (only p a) c after s) ≤ 0)
       lanes_empty p a hp l = omega (arith, l, once c range after even p a hp)
 

@@ -1,4 +1,4 @@
--- worked orders: what the requests of small runs did, one after the other
+-- worked orders: what the requests of small runs did, in order
 use Rattle.std.specs.Prelude.{◌≡◌, ℕ, [], ◌∷◌, refl}
 use Rattle.ultra_msg.specs.declared.Op.{Op}
 use Rattle.ultra_msg.specs.declared.Op.TheVariants.{Load, Store, Faa}

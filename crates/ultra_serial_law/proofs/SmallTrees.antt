@@ -29,7 +29,7 @@ pair_each : (P : NamedRequest → Type 0) (s x : ℕ) (o n : Tree) (f : Bool) �
 pair_each P s x o n true h k = each-append P (leaves o) (leaves n) h k
 pair_each P s x o n false h k = each-append P (leaves n) (leaves o) k h
 
--- no name stands twice in a tree that is kept
+-- in a tree that is kept no more leaves pass a test than in all kept trees
 kept_count : (t : NamedRequest → Bool) (p a : ℕ) (ks : List Kept) (u : Tree) → tree_of p a ks ≡ Some u → count t (leaves u) ≤ sum_of (tree_leaves t) ks
 kept_count t p a ks u e =
     let all = taken t p a ks in

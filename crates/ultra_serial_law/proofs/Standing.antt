@@ -1,4 +1,5 @@
--- where a message stands there is no record of its reference from there on, and no other message of it anywhere
+-- where a message is, there is no record of its reference from there on, and no other message of it
+-- anywhere
 use Rattle.std.proofs.Common.{◌≡◌, ◌≢◌, ℕ, zero, suc, ◌+◌, ◌<◌, ◌≤◌, List, [], ◌∷◌, Bool, true, arith, ap, ⊎_elim}
 use Rattle.std.specs.Prelude.{Option, Some, None, IfSome}
 use Rattle.std.specs.List.{AllByRecursion}
@@ -14,7 +15,7 @@ use Rattle.ultra_model.proofs.Routes.{route}
 use Rattle.ultra_serial_law.proofs.Tidy.{marked_in, lanes_of, marked_of, pending_of, up_to, IsTidy, total_gain, total_most, marked_weight}
 use Rattle.ultra_serial_law.proofs.Forest.{record_at, position_of, find_none}
 
--- ---- what stands in a list counts
+-- ---- what is in a list counts
 pub each_in : {X : Type 0} (P Q : X → Type 0) (xs : List X) → ((x : X) → ((t : X → Bool) → t x ≡ true → 1 ≤ count t xs) → P x → Q x) → AllByRecursion P xs → AllByRecursion Q xs
 each_in P Q [] f h = tt
 each_in P Q (x ∷ xs) f h = (
@@ -42,7 +43,7 @@ marked_within t [] = omega arith
 marked_within t (e ∷ es) = omega (arith, marked_within t es, marked_weight e.combined (t e.request.pe e.request.cell))
 
 module _ (c : Settings) (m : Machine) (t : ℕ → ℕ → Bool) where
-  -- a reference stands at a place below b
+  -- a reference is at a place below b
   abbrev pub IsBelow : ℕ → Type 0
   IsBelow b = (s : ℕ) → b ≤ s → s < c.stages → marked_of t c m s + 1 ≤ up_to t c m s
 

@@ -1,4 +1,5 @@
--- the records of a reference stand below the place of its message: at most one at a stage, and none where the message still has to come, or has been on its way back
+-- The records of a reference are below the place of its message, at most one at a stage. There is
+-- none where the message still has to come, or has been on its way back.
 use Rattle.std.proofs.Common.{◌≡◌, ℕ, zero, suc, ◌+◌, ◌-◌, ◌<◌, ◌≤◌, List, [], ◌∷◌, Bool, true, false, refl, arith, sym, ◌∙◌, ap, subst, ◌⊎◌, ⊎_elim, inl, inr, length}
 use Rattle.std.specs.Prelude.{Option, Some, None, IfSome, slice_get, ◌==◌, ◌&&◌, not, nat_lt}
 use Rattle.std.specs.List.{AllByRecursion}
@@ -217,7 +218,7 @@ module _ (c : Settings) (range : AreInRange c) (m : Machine) where
     marked_replied s h = total_same (size c) _ _ (λ x l. rw (lane-reply_phase c m s x h l) refl)
 
   module _ (w : IsRouted c m) (b : IsBalanced c m) where
-    -- the records of a reference at a stage stand in one wait buffer
+    -- the records of a reference at a stage are in one wait buffer
     pub record_line : (p a s x : ℕ) → s < c.stages → x < size c → 1 ≤ old_records (is_reference p a) (lane_at m s x).records → line_of c.stages (s + 1) p (module_of c a) ≡ x
     record_line p a s x hs hx l =
         let one = found (IsRecordAt c s x) (λ (u : WaitRecord). is_reference p a u.pe u.cell) (lane_at m s x).records (w.records s x hs hx) l in

@@ -16,8 +16,8 @@ abbrev pub held_by : ℕ → List Kept → ℕ
 held_by p [] = 0
 held_by p (k ∷ ks) = weight (k.pe == p) + held_by p ks
 
--- these trees, of n processing elements (PEs) with at most m requests each, can absorb an event:
--- the requests that are served or combined are held, and are of two PEs if they combine; a request
+-- these trees, of n processing elements (PEs) with at most m requests each, can absorb an event.
+-- The requests that are served or combined are held, and are of two PEs if they combine. A request
 -- that is issued isn't held yet, its PE is below n, and fewer than m of that PE's requests are held
 abbrev pub IsAbsorbable : ℕ → ℕ → List Kept → Event → Type 0
 IsAbsorbable n m ks (Delivered r) = Unit {0}
@@ -34,7 +34,7 @@ served_tree ks (Served k r reply now) = tree_of r.pe r.cell ks
 served_tree ks (Combined s x a p q f) = None
 served_tree ks (Issued r i) = None
 
--- they can absorb several events, one after the other
+-- they can absorb several events, in order
 abbrev pub AreAbsorbable : ℕ → ℕ → List Kept → List Event → Type 0
 AreAbsorbable n m ks [] = Unit {0}
 AreAbsorbable n m ks (e ∷ es) = IsAbsorbable n m ks e × AreAbsorbable n m (trees_after ks e) es
@@ -52,8 +52,8 @@ pub record IsOfMachine (c : Settings) (t : Tree) : Type 0 where
   pub different : (j k : ℕ) (l r : NamedRequest) → slice_get (leaves t) j ≡ Some l
       → slice_get (leaves t) k ≡ Some r → l.pe ≡ r.pe → j ≡ k
 
--- how a serial list grows: each event adds a piece to it, and the requests of the piece are the
--- leaves of the tree that the event's act serves, in serial order
+-- how a serial list grows. Each event adds a piece to it. The requests of the piece are the leaves
+-- of the tree that the event's act serves, in serial order
 abbrev pub AreLeavesAdded : List Entry → List Kept → List Event → List Entry → Type 0
 AreLeavesAdded list ks [] longer = list ≡ longer
 AreLeavesAdded list ks (e ∷ es) longer =

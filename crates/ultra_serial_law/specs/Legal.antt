@@ -30,7 +30,7 @@ abbrev pub given : List (ℕ × ℕ) → Cells
 given is = given_over (λ a. 0) is
 
 -- ---- replay
--- the cells after these requests, one after the other, and each request with its reply
+-- the cells after these requests, in order, and each request with its reply
 abbrev pub cells_after : Cells → List NamedRequest → Cells
 cells_after m [] = m
 cells_after m (l ∷ ls) = cells_after (with_cell m l.cell (act l.op (m l.cell)).0) ls
@@ -41,7 +41,7 @@ replayed m (l ∷ ls) =
     answered_by l (act l.op (m l.cell)).1 ∷ replayed (with_cell m l.cell (act l.op (m l.cell)).0) ls
 
 -- ---- legal
--- x stands in the list
+-- x is in the list
 abbrev pub Has : {X : Type 0} → List X → X → Type 0
 Has {X} xs x = (k : ℕ) × (slice_get xs k ≡ Some x)
 
@@ -61,10 +61,10 @@ pub record IsIssueOf (e : Entry) (i : LoggedIssue) : Type 0 where
 pub record IsLegal (initial : Cells) (log : Log) (final : Cells) (list : List Entry) : Type 0 where
   -- each entry was issued, with its cell and operation
   pub issued : (e : Entry) → Has list e → (i : LoggedIssue) × Has log.issues i × IsIssueOf e i
-  -- no name stands twice
+  -- no name occurs twice
   pub once : (j k : ℕ) (e f : Entry) → slice_get list j ≡ Some e → slice_get list k ≡ Some f
       → e.pe ≡ f.pe → e.number ≡ f.number → j ≡ k
-  -- each name that was answered stands in the list
+  -- each name that was answered is in the list
   pub answered : (a : LoggedAnswer) → Has log.answers a → (e : Entry) × Has list e × IsAnswerTo e a
   -- the replies are those of the replay
   pub replies : replayed initial (map (λ (e : Entry). leaf_of_entry e) list) ≡ list

@@ -39,7 +39,7 @@ pub record IsRequestOf (d : Delivery) (a : LoggedAnswer) (i : LoggedIssue) : Typ
   pub earlier : i.cycle < d.cycle
 
 -- a delivery and an answer are one: processing element, reply and cycle are the same, and the
--- request stands among the issues
+-- request is among the issues
 pub record IsAnswerOf (issues : List LoggedIssue) (d : Delivery) (a : LoggedAnswer) : Type 0 where
   pub pe : a.pe ≡ d.message.pe
   pub reply : a.reply ≡ d.message.reply

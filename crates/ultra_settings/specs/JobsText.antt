@@ -64,7 +64,7 @@ abbrev pub jobs_in : Items → Option (List Paths)
 jobs_in ds =
     if nat_le 1 (job_count ds) && nat_le (job_count ds) 256 then paths_in ds else None
 
--- a file of jobs is a table with such an array `job`, and no other key
+-- a file of jobs is a table with an array `job` of 1 to 256 jobs, and no other key
 abbrev pub array_at : Members → Option Items
 array_at ms = option_and_then as_array (get_member (codes "job") ms)
 

@@ -1,4 +1,4 @@
--- jobs that are done one after the other
+-- jobs that are done in order
 use Rattle.std.proofs.Common.{◌≡◌, ℕ, ◌+◌, ◌<◌, ◌≤◌, List, [], ◌∷◌, ◌++◌, length, refl, sym, ap, subst, ◌∙◌, append_assoc, get_or, arith}
 use Rattle.std.specs.Prelude.{Some, IfSome, slice_get, Contains}
 use Rattle.std.proofs.lemmas.Option.{slice_get_read}

@@ -1,4 +1,4 @@
--- texts that go into their places, one after the other
+-- texts that go into their places one by one
 use Rattle.std.proofs.Common.{◌≡◌, ◌≢◌, ℕ, zero, suc, ◌+◌, ◌<◌, ◌≤◌, List, [], ◌∷◌, ◌++◌, false, length, refl, sym, ap, subst, ◌∙◌, arith, map, take, drop, get_or, set, Vec, Global, ⊎_elim}
 use Rattle.std.specs.Prelude.{Option, Some, None, IsSome, is_some, IfSome, All, replicate, slice_get}
 use Rattle.std.proofs.lemmas.Bool.{cases_eq}

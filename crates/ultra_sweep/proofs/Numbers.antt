@@ -99,7 +99,7 @@ room n rs k within below new =
     let same = length-job_numbers rs in
     omega arith
 
--- a result that stands among others is counted
+-- a result that is among others is counted
 pub times-middle : (i : ℕ) (before rest : List JobResult) (r : JobResult) → times i (job_numbers (before ++ r ∷ rest)) ≡ times i (job_numbers before) + (one_if (r.number == i) + times i (job_numbers rest))
 times-middle i before rest r =
     ap (times i) (map-append (λ (q : JobResult). q.number) before (r ∷ rest)) ∙ times-append i (job_numbers before) (r.number ∷ job_numbers rest)

@@ -70,7 +70,7 @@ after_arrival l r None = record { queue = l.queue ++ entry r false ∷ []; recor
 after_arrival l r (Some c) =
     record { queue = c.queue; records = l.records ++ wait_record c.old r ∷ [] }
 
--- the lane after a request has arrived: it has combined, or it stands at the end, unmarked
+-- the lane after a request has arrived: it has combined, or it is at the end, unmarked
 abbrev pub arrive : ℕ → Lane → Request → Lane
 arrive wait_places l r = after_arrival l r (combine_within wait_places l r)
 

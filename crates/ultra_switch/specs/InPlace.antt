@@ -7,7 +7,7 @@ module _ {X : Type 0} where
   with_front None rest = []
   with_front (Some x) rest = x ∷ rest
 
-  -- nothing stands behind an empty front, and the places without an item are free
+  -- nothing is behind an empty front, and the places without an item are free
   pub record IsInPlace (front : Option X) (rest : List X) (places free : ℕ) : Type 0 where
     pub alone : front ≡ None → rest ≡ []
     pub filled : length (with_front front rest) + free ≡ places

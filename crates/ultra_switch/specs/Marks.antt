@@ -10,7 +10,7 @@ use Rattle.ultra_switch.specs.declared.TheConstants.{MOST_REQUEST_PLACES}
 abbrev pub has_mark : ℕ → ℕ → Bool
 has_mark word place = bit_at word place == 1
 
--- requests that stand from a place on, each with its mark
+-- requests from a place on, each with its mark
 abbrev pub marked_from : ℕ → ℕ → List Request → List QueueEntry
 marked_from word place [] = []
 marked_from word place (r ∷ rs) = entry r (has_mark word place) ∷ marked_from word (suc place) rs

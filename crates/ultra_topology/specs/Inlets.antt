@@ -5,12 +5,12 @@ use Rattle.ultra_switch.specs.declared.Ports.{Ports}
 use Rattle.ultra_topology.specs.{Numbers.IsSmall, Numbers.switch_count, Set.has_unit, Units.index_of, Units.stage_of, Units.of_unit, Links.put_on, Ways.places_of, Marks.on_link, Marks.reply_links, Marks.delivery_link, Marks.request_links, Marks.memory_link}
 use Rattle.ultra_topology.specs.declared.TheConstants.{MOST_UNITS}
 
--- one link, which stands at both ports
+-- one link, which is at both ports
 abbrev pub at_both : ℕ → Ports ℕ
 at_both link = record { zero = link; one = link }
 
 -- the links by which replies come to the unit with number n, if any can: a processing element has
--- one, which stands at both ports
+-- one, which is at both ports
 abbrev pub reply_inlets : ℕ → ℕ → Option (Ports ℕ)
 reply_inlets d n =
     of_unit d (λ s k. Some (reply_links d s k)) (λ m. None)

@@ -30,6 +30,6 @@ on_both table p = record { zero = on_link table p.zero; one = on_link table p.on
 abbrev pub without_both : {M : Type 0} → List (Option M) → Ports ℕ → List (Option M)
 without_both table p = slice_set (slice_set table p.zero None) p.one None
 
--- what stands at two ports, one after the other
+-- what is at two ports, in order: that at port 0 first, or that at port 1 first
 abbrev pub ports_in_turn : {X : Type 0} → Bool → Ports X → X × X
 ports_in_turn zero_first p = elim zero_first [ true ↦ (p.zero, p.one) | false ↦ (p.one, p.zero) ]

@@ -23,7 +23,7 @@ abbrev pub IsSmall : ℕ → Type 0
 IsSmall d = d ≤ 4
 
 -- a link has the number of the position from which a message leaves: that of position x of stage s,
--- counted over all stages; behind them, as positions of stage d, come the modules, from which
+-- counted over all stages. Behind them, as positions of stage d, come the modules, from which
 -- replies leave, and the processing elements, from which requests leave
 abbrev pub link_number : ℕ → ℕ → ℕ → ℕ
 link_number d s x = s * 2 ^ d + x

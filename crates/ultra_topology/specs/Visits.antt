@@ -1,4 +1,4 @@
--- visits of units, one after another by their numbers, and walks over a set that loses some
+-- visits of units in the order of their numbers, and walks over a set that loses some
 use Rattle.std.specs.Prelude.{◌≡◌, ℕ, zero, suc, ◌+◌, ◌-◌, ◌<◌, Bool, true, false, List, nat_lt}
 use Rattle.std.specs.Int.{bit_at}
 use Rattle.ultra_topology.specs.{Set.AreBits, Set.has_bit, Set.has_unit, Set.IsFirstOf, Set.word_end, declared.pass.Walk.Walk}

@@ -175,7 +175,7 @@ act_other (Issued r n) = nothing
 fault_other : (s : Stop) → Shows (fault_line s) []
 fault_other s = other_line (codes "fault " ++ decimal s.pe ++ codes " " ++ fault_text s.fault) (simp (list_all-append is_inner, decimal_within, fault_within) refl) refl
 
--- ---- what stands where
+-- ---- what is where
 -- an entry that the byte before shows to be no `got` line
 module _ {X : Type 0} (name : List ℕ) (text : X → List ℕ) (named : is_within name ≡ true) (other : (rest : List ℕ) → is_got (name ++ rest) ≡ false) (each : (x : X) → is_within (text x) ≡ true) where
   place_other : (xs : List X) → Shows (place_line name text xs) []

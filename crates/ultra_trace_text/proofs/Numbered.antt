@@ -1,4 +1,4 @@
--- lines one after another
+-- lines in order
 use Rattle.std.proofs.Common.{ℕ, zero, suc, ◌≡◌, ◌+◌, List, [], ◌∷◌, ◌++◌, get_or, refl, ◌∙◌, ap, arith, append-nil, add-one, slice_get}
 use Rattle.std.specs.Option.{unwrap_or}
 use Rattle.std.specs.List.{flat_map, range_with_len}

@@ -1,4 +1,4 @@
--- where the tree stands that was put last under an identity
+-- where the tree is that was put last under an identity
 use Rattle.std.proofs.Common.{◌≡◌, ℕ, zero, suc, ◌+◌, ◌<◌, ◌≤◌, List, [], ◌∷◌, ◌++◌, length, get_or, ◌≢◌, ◌-◌, true, false, ◌==◌, ◌&&◌, refl, arith, sym, ap, subst, ◌∙◌, ⊎_elim, Some, None}
 use Rattle.std.specs.Prelude.{slice_get, Option, not, is_some, IfSome, IfNone, ◌↔◌}
 use Rattle.std.proofs.lemmas.List.{append-nil, length_push}

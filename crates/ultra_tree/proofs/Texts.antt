@@ -1,4 +1,4 @@
--- the text of a tree is that of its places, one after the other
+-- the text of a tree is that of its places, in order
 use Rattle.std.proofs.Common.{◌≡◌, ℕ, zero, suc, ◌+◌, ◌-◌, ◌<◌, ◌≤◌, List, [], ◌++◌, Bool, true, false, nat_lt, Option, Some, None, codes, arith, ap, refl, sym, ◌∙◌, append_assoc, append-nil}
 use Rattle.ultra_tree.specs.Counts.{leaf_count}
 use Rattle.ultra_tree.specs.Places.{piece, pieces}

@@ -20,8 +20,8 @@ event_cell (Served k r reply now) = r.cell
 event_cell (Combined s x a p q f) = a
 event_cell (Issued r i) = r.cell
 
--- an explainer as its callers see it: the number of processing elements, how many requests each can
--- have on their way, whether memory was refused, and the trees, the latest first
+-- an explainer as its callers see it: the number of processing elements, and how many requests each
+-- can have on their way. Then whether memory was refused, and the trees, the latest first
 pub record Explained : Type 0 where
   pub elements : ℕ
   pub most_open : ℕ

@@ -13,8 +13,8 @@ module _ {A : Type 0} where
   leaves_in (Pair' s x p old q new true k l) = leaves_in old ++ leaves_in new
   leaves_in (Pair' s x p old q new false k l) = leaves_in new ++ leaves_in old
 
-  -- the depth of a leaf: n where it stands in n pairs. Its place is that in the text, where old
-  -- comes before new
+  -- the depth of a leaf: n where it is in n pairs. Its place is that in the text, where old comes
+  -- before new
   abbrev pub depth_at : CountedNode A → ℕ → ℕ
   depth_at (node.Leaf p n o) i = 0
   depth_at (Pair' s x p old q new f k l) i =

@@ -41,7 +41,7 @@ module _ {A : Type 0} where
   trees_of [] = []
   trees_of (h ∷ hs) = trees_of hs ++ kept_as h ∷ []
 
-  -- at this place stands the tree that was put last under an identity
+  -- at this place is the tree that was put last under an identity
   pub record IsLatest (p a : ℕ) (hs : List (Held A)) (i : ℕ) : Type 0 where
     pub held : Held A
     pub at : slice_get hs i ≡ Some held

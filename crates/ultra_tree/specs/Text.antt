@@ -20,7 +20,7 @@ tree_text (leaf l) = leaf_text l.pe l.number
 tree_text (pair s x old new f) =
     head_text s x ++ tree_text old ++ order_mark f ++ tree_text new ++ codes "]"
 
--- ---- parts of such a text
+-- ---- parts of the text of a tree
 -- a pair opens before its first leaf
 abbrev pub opening : ℕ → ℕ → ℕ → List ℕ
 opening zero s x = head_text s x

@@ -10,7 +10,7 @@ pub last_turned : {X : Type 0} (items front : List X) (a b x y : X) (n : ℕ) �
 last_turned items front a b x y n are count first second =
     grind (arith, length-append, set-append_right front (a ∷ b ∷ []) (length front) (n - 2) y refl, set-append_right front (y ∷ b ∷ []) (length front) (n - 1) x refl, get_or_at front a (b ∷ []) x (n - 2), get_or-append-add front (a ∷ b ∷ []) 1 y)
 
--- ---- what two requests that came one after the other have combined
+-- ---- what a request that came first and one that came second have combined
 module _ (d s k : ℕ) (w : Switch) (first second : Option Request) (lanes : Ports SizedLane) (zero : lanes.zero ≡ lane_with w.to_mm.zero (coming_to d s 0 first)) (one : lanes.one ≡ lane_with w.to_mm.one (coming_to d s 1 first)) where
   abbrev pub first_combination : Option Event
   first_combination = combination_by d s k w.to_mm first

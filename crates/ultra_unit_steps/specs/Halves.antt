@@ -69,7 +69,7 @@ first_of n o = elim (n % 2 == 0) [ true ↦ o.zero | false ↦ o.one ]
 abbrev pub second_of : {X : Type 0} → ℕ → Ports X → X
 second_of n o = elim (n % 2 == 0) [ true ↦ o.one | false ↦ o.zero ]
 
--- of two requests that come one after the other, what leaves stage s by port j
+-- of two requests that come in this order, what leaves stage s by port j
 abbrev pub both_coming : ℕ → ℕ → ℕ → Option Request → Option Request → List Request
 both_coming d s j first second = coming_to d s j first ++ coming_to d s j second
 

@@ -61,7 +61,7 @@ pub record CanTakeRequests (d s : ℕ) (w : Switch) (incoming : Ports (Option Re
   pub zero : ForSome incoming.zero (HasWay d s w)
   pub one : ForSome incoming.one (HasWay d s w)
 
--- after two requests came, one after the other, and after these requests came in cycle n
+-- after two requests came in this order, and after these requests came in cycle n
 abbrev pub after_both : ℕ → ℕ → Switch → Option Request → Option Request → Switch
 after_both d s w first second =
     record w { to_mm = ports_by (λ j l. lane_with l (both_coming d s j first second)) w.to_mm }

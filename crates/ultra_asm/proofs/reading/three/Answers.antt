@@ -1,4 +1,4 @@
--- the operands are read one after the other, up to the first that is wrong
+-- the operands are read in order, up to the first that is wrong
 use Rattle.std.proofs.Common.{◌≡◌, ◌∙◌, ℕ, ◌<◌, ◌≤◌, List, length, get_or, sym, ap, ap₂, arith, rules}
 use Rattle.std.specs.Prelude.{Result, Ok, Err}
 use Rattle.ultra_asm.specs.declared.AsmFaultKind.{AsmFaultKind}
