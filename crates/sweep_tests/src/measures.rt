@@ -50,7 +50,7 @@ fn check_table<R: Threads + Wait + Sync + Abort + AllocGlobal>(
     at_once: u64,
     rows: &str,
 ) -> Result<(), Fail> {
-    let results = sweep_by_two(rt, jobs, at_once, &OutputGate(output))?;
+    let results = sweep_by_two(rt, jobs, at_once, &OutputGate::new(output))?;
     let gathered = gather(rt.alloc(), jobs.len() as u64, results)?;
     let mut out = MemorySink::failing_after(rt, usize::MAX);
     write_job_table(&gathered, measure_names(), &mut out)?;
@@ -102,7 +102,7 @@ fn windows_of_three_cycles(rt: HostRuntime) -> Result<(), Fail> {
 fn table_into_a_failing_sink(rt: HostRuntime) -> Result<(), Fail> {
     let jobs = two_jobs(rt.alloc())?;
     let output = SweepOutput::Measures { every: None };
-    let results = sweep_by_two(&rt, jobs.as_slice(), 1, &OutputGate(&output))?;
+    let results = sweep_by_two(&rt, jobs.as_slice(), 1, &OutputGate::new(&output))?;
     let gathered = gather(rt.alloc(), 2, results)?;
     let wanted = format!(in rt.alloc(); "{NAMES}{WHOLE_RUNS}")?;
     for count in 0..20 {

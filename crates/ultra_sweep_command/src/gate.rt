@@ -1,6 +1,6 @@
 //! The program's way to run a job of a sweep: in the thread that drew it, into a text in memory.
 
-ghost use Rattle.std.specs.Prelude.{◌≡◌, ◌≤◌};
+ghost use Rattle.std.specs.Prelude.{◌≡◌, ◌≤◌, []};
 ghost use Rattle.ultra_sweep.specs.Job.{trace_of, IsOutcomeOf};
 ghost use Rattle.ultra_sweep.specs.declared.job.Job.{Job as JobOf};
 ghost use Rattle.ultra_measure.specs.Texts.{job_rows};
@@ -9,6 +9,7 @@ ghost use Rattle.ultra_sweep_command.specs.Output.{job_output, window_cycles};
 use crate::text::Text;
 use std::alloc::Global;
 use std::sync::Wait;
+use std::sync::atomic::{AtomicU64, Ordering};
 use ultra_args::{SweepOutput, WindowCycles};
 use ultra_board::Seat;
 use ultra_measure::{Layout, measure};
@@ -30,38 +31,78 @@ impl JobGate for RunAlone {
         number: u64,
         job: &Job,
     ) -> JobResult {
-        let mut text = Text::new(alloc);
-        let outcome = match run_alone(alloc, &job.config, &job.program, &mut text) {
-            Ok(()) => JobOutcome::Text(text.into_bytes()),
-            Err(_) => JobOutcome::NoMemory,
+        JobResult {
+            number,
+            outcome: trace_job(alloc, job, Text::new(alloc)),
+        }
+    }
+}
+
+/// Runs each job in the thread that drew it, and gives what a sweep writes of it.
+///
+/// The jobs of a sweep are mostly alike. So the text of a trace begins with as much room as the
+/// trace before took, because a long text is costly to move when it grows.
+#[derive(Drop)]
+pub struct OutputGate<'a> {
+    /// What is written of a job.
+    pub output: &'a SweepOutput,
+    /// The length of the last trace in bytes, or 0 before the first.
+    last_length: AtomicU64,
+}
+
+impl<'a> OutputGate<'a> {
+    /// A gate that has run no job.
+    pub fn new(output: &'a SweepOutput) -> OutputGate<'a>
+        ensures { result.output ≡ output.entry }
+    {
+        OutputGate {
+            output,
+            last_length: AtomicU64::new(0),
+        }
+    }
+
+    /// The trace of a job.
+    fn trace(&self, alloc: Global, job: &Job) -> JobOutcome
+        ensures { IsOutcomeOf (trace_of job.now) result }
+    {
+        let room = self.last_length.load(Ordering::Relaxed) as usize;
+        let outcome = trace_job(alloc, job, Text::with_room(alloc, room));
+        if let JobOutcome::Text(bytes) = &outcome {
+            self.last_length
+                .store(bytes.len() as u64, Ordering::Relaxed);
+        }
+        outcome
+    }
+}
+
+impl JobGate for OutputGate<'_> {
+    ghost text = { λ gate. job_output gate.output.now };
+
+    fn run<R: Wait>(
+        &self,
+        _rt: &R,
+        alloc: Global,
+        _seat: &Seat,
+        number: u64,
+        job: &Job,
+    ) -> JobResult {
+        let outcome = match *self.output {
+            SweepOutput::Report => self.trace(alloc, job),
+            SweepOutput::Measures { every } => measure_job(alloc, number, job, cycles_of(every)),
         };
         JobResult { number, outcome }
     }
 }
 
-/// Runs each job in the thread that drew it, and gives what a sweep writes of it.
-#[derive(Clone, Copy)]
-pub struct OutputGate<'a>(pub &'a SweepOutput);
-
-impl JobGate for OutputGate<'_> {
-    ghost text = { λ gate. job_output gate.0.now };
-
-    fn run<R: Wait>(
-        &self,
-        rt: &R,
-        alloc: Global,
-        seat: &Seat,
-        number: u64,
-        job: &Job,
-    ) -> JobResult {
-        match *self.0 {
-            SweepOutput::Report => RunAlone.run(rt, alloc, seat, number, job),
-            SweepOutput::Measures { every } => JobResult {
-                number,
-                outcome: measure_job(alloc, number, job, cycles_of(every)),
-            },
-        }
+/// The trace of a job, written into an empty text.
+fn trace_job(alloc: Global, job: &Job, mut text: Text) -> JobOutcome
+    requires { text.bytes.items ≡ [] }
+    ensures { IsOutcomeOf (trace_of job.now) result }
+{
+    if run_alone(alloc, &job.config, &job.program, &mut text).is_err() {
+        return JobOutcome::NoMemory;
     }
+    JobOutcome::Text(text.into_bytes())
 }
 
 /// How many cycles a window has. Where no number is given, it has room for a whole run.

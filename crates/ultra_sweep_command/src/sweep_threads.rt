@@ -117,7 +117,7 @@ impl<'a> SweepThreads<'a> {
             seat,
             threads,
         } = self;
-        let gate = OutputGate(task.output);
+        let gate = OutputGate::new(task.output);
         let (seat, results) = work(rt, alloc, task.board, seat, task.jobs, &gate);
         let Ok(results) = results else {
             let sweep_threads = SweepThreads {

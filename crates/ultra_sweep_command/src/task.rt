@@ -43,7 +43,7 @@ impl SweepTask<'_> {
         ensures { AreSeatResults self.now.output.now self.now.board.now self.now.jobs.now 1 result }
     {
         let gate = NotifyingGate {
-            gate: OutputGate(self.output),
+            gate: OutputGate::new(self.output),
             signal: self.signal,
         };
         let (seat, results) = work(rt, alloc, self.board, seat, self.jobs, &gate);
@@ -56,14 +56,14 @@ impl SweepTask<'_> {
 }
 
 /// Runs each job as the program does, and notifies the signal when it is done.
-#[derive(Clone, Copy)]
+#[derive(Drop)]
 pub(crate) struct NotifyingGate<'b> {
     gate: OutputGate<'b>,
     signal: &'b DoneSignal,
 }
 
 impl JobGate for NotifyingGate<'_> {
-    ghost text = { λ notifying. job_output notifying.gate.0.now };
+    ghost text = { λ notifying. job_output notifying.gate.output.now };
 
     fn run<R: Wait>(
         &self,

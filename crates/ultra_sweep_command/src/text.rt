@@ -34,11 +34,27 @@ impl Text {
         }
     }
 
-    /// The bytes.
-    pub fn into_bytes(self) -> Vec<u8>
-        ensures { result ≡ self.bytes }
+    /// An empty text with room for this many bytes, or with none where memory for them is refused.
+    pub fn with_room(alloc: Global, room: usize) -> Text
+        ensures { result.bytes.items ≡ [] }
     {
-        let Text { bytes, refusals: _ } = self;
+        Text {
+            bytes: Vec::with_capacity(alloc, room).unwrap_or(Vec::new(alloc)),
+            refusals: Refusals::None,
+        }
+    }
+
+    /// The bytes. They keep at most as much room as they take.
+    pub fn into_bytes(self) -> Vec<u8>
+        ensures { result.items ≡ self.bytes.items }
+    {
+        let Text {
+            mut bytes,
+            refusals: _,
+        } = self;
+        if bytes.capacity() / 2 > bytes.len() {
+            bytes.shrink_to_fit();
+        }
         bytes
     }
 }
