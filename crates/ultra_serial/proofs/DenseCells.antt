@@ -9,10 +9,10 @@ use Rattle.ultra_serial_law.specs.Legal.{Cells, with_cell}
 use Rattle.ultra_serial.specs.DenseCells.{cells_over}
 
 -- what with_cell has at the address and at another one
-at_cell : (m : Cells) (k v a : ℕ) → a ≡ k → with_cell m k v a ≡ v
+pub at_cell : (m : Cells) (k v a : ℕ) → a ≡ k → with_cell m k v a ≡ v
 at_cell m k v a e = ap (λ t. elim t as (λ b. ℕ) [ true ↦ v | false ↦ m a ]) (eq-eqb a k e)
 
-past_cell : (m : Cells) (k v a : ℕ) → a ≢ k → with_cell m k v a ≡ m a
+pub past_cell : (m : Cells) (k v a : ℕ) → a ≢ k → with_cell m k v a ≡ m a
 past_cell m k v a e = ap (λ t. elim t as (λ b. ℕ) [ true ↦ v | false ↦ m a ]) (ne_eqb a k e)
 
 in_low : (low : List ℕ) (high : Cells) (a : ℕ) → a < length low → cells_over low high a ≡ get_or low a 0

@@ -2,9 +2,11 @@ pub mod ByPair
 pub mod Places
 pub mod CellsHeld
 pub mod DenseCells
+pub mod PendingRows
 pub mod Stacks
 pub mod Turns
 pub mod Cycles
+pub mod LatestNumbers
 pub mod Numbers
 pub mod Explaining
 pub mod RecordsByName

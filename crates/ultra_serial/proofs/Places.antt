@@ -11,12 +11,12 @@ use Rattle.ultra_serial.specs.ByName.{small_items, place_in, place_of, placed}
 use Rattle.ultra_serial.proofs.ByPair.{same_pair}
 use Rattle.ultra_serial.proofs.RecordsByName.{pair_same}
 
-get_set : {X : Type 0} (xs : List X) (i : ℕ) (y : X) → i < length xs → slice_get (set xs i y) i ≡ Some y
+pub get_set : {X : Type 0} (xs : List X) (i : ℕ) (y : X) → i < length xs → slice_get (set xs i y) i ≡ Some y
 get_set [] i y l = absurd (omega (arith, l))
 get_set (x ∷ xs) zero y l = refl
 get_set (x ∷ xs) (suc i) y l = get_set xs i y (omega (arith, l))
 
-get_other : {X : Type 0} (xs : List X) (i j : ℕ) (y : X) → j ≢ i → slice_get (set xs i y) j ≡ slice_get xs j
+pub get_other : {X : Type 0} (xs : List X) (i j : ℕ) (y : X) → j ≢ i → slice_get (set xs i y) j ≡ slice_get xs j
 get_other [] i j y n = refl
 get_other (x ∷ xs) zero zero y n = absurd (n refl)
 get_other (x ∷ xs) zero (suc j) y n = refl
@@ -24,11 +24,11 @@ get_other (x ∷ xs) (suc i) zero y n = refl
 get_other (x ∷ xs) (suc i) (suc j) y n = get_other xs i j y (λ e. n (ap suc e))
 
 -- one item more
-get_end : {X : Type 0} (xs : List X) (y : X) → slice_get (xs ++ y ∷ []) (length xs) ≡ Some y
+pub get_end : {X : Type 0} (xs : List X) (y : X) → slice_get (xs ++ y ∷ []) (length xs) ≡ Some y
 get_end [] y = refl
 get_end (x ∷ xs) y = get_end xs y
 
-get_before_end : {X : Type 0} (xs : List X) (j : ℕ) (y : X) → j ≢ length xs → slice_get (xs ++ y ∷ []) j ≡ slice_get xs j
+pub get_before_end : {X : Type 0} (xs : List X) (j : ℕ) (y : X) → j ≢ length xs → slice_get (xs ++ y ∷ []) j ≡ slice_get xs j
 get_before_end [] zero y n = absurd (n refl)
 get_before_end [] (suc j) y n = refl
 get_before_end (x ∷ xs) zero y n = refl

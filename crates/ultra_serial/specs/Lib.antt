@@ -3,10 +3,12 @@ pub mod ByName
 pub mod RecordsByName
 pub mod Memory
 pub mod DenseCells
+pub mod PendingRow
 pub mod PendingRequests
 pub mod Following
 pub mod Ordered
 pub mod Ordering
+pub mod LatestNumbers
 pub mod LogRecorder
 pub mod Breach
 pub mod Examined

@@ -18,6 +18,9 @@ use crate::{Entry, Log, LoggedAnswer};
 use std::alloc::{AllocError, Global};
 use ultra_msg::{Cell, Word};
 
+/// The number of addresses whose cells are found fast.
+const TABLE_CELLS: u32 = 65_536;
+
 /// What is wrong with a list: with one of its entries, with an answer that none of them has (`Missing`) or with a cell (`WrongCell`).
 #[derive(Clone, Copy, PartialEq, Eq, Debug, Drop)]
 pub enum BreachKind {
@@ -69,9 +72,9 @@ pub fn check(
     ensures legal { OnOk result (IsLegal (given initial.now) (log_of log.now) (given cells.now) list.now) }
     ensures breach { IfErr result (ExplainsCheckFault (given initial.now) (log_of log.now) (given cells.now) list.now) }
 {
-    let mut memory = DenseMemory::new(alloc, initial)?;
+    let mut memory = DenseMemory::new(alloc, initial, TABLE_CELLS)?;
     examine(alloc, log, list, &mut memory)?;
-    let wanted = DenseMemory::new(alloc, cells)?;
+    let wanted = DenseMemory::new(alloc, cells, TABLE_CELLS)?;
     let of_initial = lowest_given(&memory, &wanted, initial, None);
     let of_cells = lowest_given(&memory, &wanted, cells, of_initial);
     if let Some(cell) = lowest_used(&memory, &wanted, list, of_cells) {

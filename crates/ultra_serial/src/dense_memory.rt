@@ -9,8 +9,8 @@ use crate::memory::SerialMemory;
 use std::alloc::{AllocError, Global};
 use ultra_msg::{Cell, Op, Reply, Word};
 
-/// The number of addresses whose cells are in the table.
-const TABLE_CELLS: usize = 65_536;
+/// The most addresses whose cells are in a table.
+const MOST_TABLE_CELLS: u32 = 65_536;
 
 /// A memory on which requests act sequentially. A cell to which nothing was given holds 0.
 #[derive(Drop)]
@@ -22,14 +22,18 @@ pub(crate) struct DenseMemory {
 }
 
 impl DenseMemory {
-    /// A memory with these cells, each given by its address and value; if an address occurs twice, the last value wins.
+    /// A memory with these cells, each given by its address and value; if an address occurs twice, the last value wins. The addresses below `all_cells` are found fast.
     ///
     /// An error says that memory of the host was refused.
-    pub fn new(alloc: Global, initial: &[(Cell, Word)]) -> Result<DenseMemory, AllocError>
+    pub fn new(
+        alloc: Global,
+        initial: &[(Cell, Word)],
+        all_cells: u32,
+    ) -> Result<DenseMemory, AllocError>
         ensures { IfOk result (λ m. dense_cells m ≡ given initial.now) }
     {
         let mut memory = DenseMemory {
-            low: zeros(alloc, TABLE_CELLS)?,
+            low: zeros(alloc, all_cells.min(MOST_TABLE_CELLS) as usize)?,
             high: SerialMemory::new(alloc, &[])?,
         };
         for (cell, word) in initial {
@@ -62,7 +66,7 @@ impl DenseMemory {
     }
 
     /// Gives a cell a value.
-    fn set(&mut self, cell: Cell, word: Word) -> Result<(), AllocError>
+    pub fn set(&mut self, cell: Cell, word: Word) -> Result<(), AllocError>
         ensures { OnOk result (dense_cells self.new ≡ with_cell (dense_cells self.old) cell word) }
     {
         let place = cell as usize;

@@ -1,8 +1,8 @@
-//! What a request is known by: its name in lists, and its identity in the network.
+//! The name of a request, and what lists are kept under.
 
 ghost use Rattle.std.specs.Prelude.{◌≡◌, ℕ};
 
-use ultra_msg::{Cell, Pe};
+use ultra_msg::Pe;
 
 /// The name of a request in a log and in a serial list.
 #[derive(Clone, Copy, Drop)]
@@ -11,15 +11,6 @@ pub(crate) struct RequestName {
     pub pe: Pe,
     /// How many requests that processing element had issued before.
     pub number: u32,
-}
-
-/// The identity of a request in the network.
-#[derive(Clone, Copy, Drop)]
-pub(crate) struct RequestIdentity {
-    /// The processing element that issued it.
-    pub pe: Pe,
-    /// The cell that it is for.
-    pub cell: Cell,
 }
 
 /// What lists are kept under: two numbers.
@@ -43,15 +34,5 @@ impl Key for RequestName {
 
     fn pair(self) -> (u32, u32) {
         (self.pe, self.number)
-    }
-}
-
-impl Key for RequestIdentity {
-    ghost first = { λ identity. identity.pe };
-
-    ghost second = { λ identity. identity.cell };
-
-    fn pair(self) -> (u32, u32) {
-        (self.pe, self.cell)
     }
 }

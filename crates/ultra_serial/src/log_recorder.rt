@@ -2,41 +2,40 @@
 
 ghost use Rattle.std.specs.Prelude.{◌≡◌, ℕ, ◌∷◌, ◌++◌, ◌≤◌, List, IfOk, OnOk};
 ghost use Rattle.ultra_model.specs.Machine.{start};
-ghost use Rattle.ultra_serial_law.specs.Log.{Log as LogKept, empty_log, log_of, latest_number, logged};
+ghost use Rattle.ultra_serial_law.specs.Log.{Log as LogKept, empty_log, log_of, logged};
 ghost use Rattle.ultra_serial_law.specs.SerialList.{history};
 ghost use Rattle.ultra_serial.specs.LogRecorder.{Records, logged_all};
 ghost use Rattle.ultra_serial.specs.HasRun.{HasRun};
 ghost use Rattle.ultra_model.specs.declared.config.TheConstants.{MOST_CYCLES};
 
-use crate::by_pair::ListsByPair;
-use crate::keys::RequestIdentity;
+use crate::latest_numbers::LatestNumbers;
 use crate::serial_state::OrderFault;
 use crate::{Log, LoggedAnswer, LoggedIssue};
 use std::alloc::{AllocError, Global};
 use ultra_isa::Program;
 use ultra_machine::{Config, Machine};
-use ultra_msg::{Cell, Event, Pe};
+use ultra_msg::Event;
 
 /// What was issued and answered so far.
 #[derive(Drop)]
 pub(crate) struct LogRecorder {
     log: Log,
-    /// The numbers of the issues of each processing element for each cell.
-    numbers: ListsByPair<RequestIdentity, u32>,
+    /// The number of the latest issue of each processing element for each cell.
+    numbers: LatestNumbers,
 }
 
 impl LogRecorder {
     /// Before the first cycle.
-    fn new(alloc: Global) -> LogRecorder
-        ensures { Records result empty_log }
+    fn new(alloc: Global, config: &Config) -> Result<LogRecorder, AllocError>
+        ensures { IfOk result (λ recorder. Records recorder empty_log) }
     {
-        LogRecorder {
+        Ok(LogRecorder {
             log: Log {
                 issues: Vec::new(alloc),
                 answers: Vec::new(alloc),
             },
-            numbers: ListsByPair::new(alloc),
-        }
+            numbers: LatestNumbers::new(alloc, config)?,
+        })
     }
 
     /// What happened in a cycle.
@@ -55,10 +54,9 @@ impl LogRecorder {
     {
         match *event {
             Event::Delivered(message) => {
-                let number = self.latest_number(message.pe, message.cell);
                 self.log.answers.push(LoggedAnswer {
                     pe: message.pe,
-                    number,
+                    number: self.numbers.get(message.pe, message.cell),
                     reply: message.reply,
                     cycle,
                 })?;
@@ -66,11 +64,7 @@ impl LogRecorder {
             Event::Served { .. } => {}
             Event::Combined { .. } => {}
             Event::Issued { request, number } => {
-                let identity = RequestIdentity {
-                    pe: request.pe,
-                    cell: request.cell,
-                };
-                self.numbers.push(identity, number)?;
+                self.numbers.set(request.pe, request.cell, number)?;
                 self.log.issues.push(LoggedIssue {
                     pe: request.pe,
                     number,
@@ -81,17 +75,6 @@ impl LogRecorder {
             }
         }
         Ok(())
-    }
-
-    /// The number of the latest issue of a processing element for a cell, or 0 where there is none.
-    fn latest_number(&self, pe: Pe, cell: Cell) -> u32
-        ensures { (l : LogKept) → Records self.now l → result ≡ latest_number pe cell l.issues 0 }
-    {
-        self.numbers
-            .get(RequestIdentity { pe, cell })
-            .last()
-            .copied()
-            .unwrap_or(0)
     }
 
     /// Records the first `cycles` cycles of a run, and gives the machine at the end. An error says that memory was refused.
@@ -164,7 +147,7 @@ pub fn log_and_machine(
     ensures log { IfOk result (λ run. log_of run.0 ≡ (history config.now program.now cycles).log) }
     ensures machine { IfOk result (λ run. HasRun config.now program.now cycles run.1) }
 {
-    let mut recording = LogRecorder::new(alloc);
+    let mut recording = LogRecorder::new(alloc, config)?;
     let machine = recording.record(alloc, config, program, cycles)?;
     Ok((recording.into_log(), machine))
 }

@@ -1,21 +1,27 @@
 //! The requests that are on their way to memory.
 
-ghost use Rattle.std.specs.Prelude.{◌≡◌, ℕ, List, [], ◌∷◌, ◌++◌, IfOk, OnOk, option_map};
+ghost use Rattle.std.specs.Prelude.{◌≡◌, ℕ, ◌+◌, ◌<◌, List, [], ◌∷◌, ◌++◌, IfOk, OnOk, option_map, vec_len};
 ghost use Rattle.ultra_msg.specs.declared.Event.TheVariants.{Combined, Issued};
 ghost use Rattle.ultra_serial_law.specs.Tree.{Tree, leaves as leaves_in, Kept, kept, tree_of, without, trees_after};
-ghost use Rattle.ultra_serial.specs.PendingRequests.{Keeps, leaves_in_order, items_in};
+ghost use Rattle.ultra_serial.specs.PendingRow.{items_in};
+ghost use Rattle.ultra_serial.specs.PendingRequests.{Keeps, chains_in, leaves_in_order};
 
 use crate::NamedRequest;
-use crate::by_pair::ListsByPair;
-use crate::keys::RequestIdentity;
+use crate::pending_row::{PendingRequest, PendingRow};
 use std::alloc::{AllocError, Global};
 use ultra_msg::{Cell, Pe, Request};
+
+/// The number of rows.
+const ROWS: u32 = 64;
 
 /// The requests that are on their way to memory, each as the leaves of its tree in serial order.
 #[derive(Drop)]
 pub(crate) struct PendingRequests {
     alloc: Global,
-    chains: ListsByPair<RequestIdentity, Vec<NamedRequest>>,
+    /// The requests, by the remainder of their processing element. There are no rows before the first request.
+    rows: Vec<PendingRow>,
+    /// Lists that no request has any more, to be used again. What they hold doesn't matter.
+    spare: Vec<Vec<NamedRequest>>,
 }
 
 impl PendingRequests {
@@ -25,7 +31,8 @@ impl PendingRequests {
     {
         PendingRequests {
             alloc,
-            chains: ListsByPair::new(alloc),
+            rows: Vec::new(alloc),
+            spare: Vec::new(alloc),
         }
     }
 
@@ -33,13 +40,13 @@ impl PendingRequests {
     pub fn issue(&mut self, request: Request, number: u32) -> Result<(), AllocError>
         ensures { OnOk result ((ks : List Kept) → Keeps self.old ks → Keeps self.new (trees_after ks (Issued request number))) }
     {
-        let leaf = NamedRequest {
+        let mut leaves = self.empty_list();
+        leaves.push(NamedRequest {
             pe: request.pe,
             number,
             cell: request.cell,
             op: request.op,
-        };
-        let leaves = vec![in self.alloc; leaf]?;
+        })?;
         self.put(request.pe, request.cell, leaves)
     }
 
@@ -55,7 +62,8 @@ impl PendingRequests {
     {
         match (self.take(old, cell), self.take(new, cell)) {
             (Some(of_old), Some(of_new)) => {
-                self.put(old, cell, in_serial_order(of_old, of_new, old_first)?)
+                let leaves = self.in_serial_order(of_old, of_new, old_first)?;
+                self.put(old, cell, leaves)
             }
             _ => Ok(()),
         }
@@ -66,39 +74,96 @@ impl PendingRequests {
         ensures kept { (ks : List Kept) → Keeps self.old ks → Keeps self.new (without pe cell ks) }
         ensures taken { (ks : List Kept) → Keeps self.old ks → items_in result ≡ option_map leaves_in (tree_of pe cell ks) }
     {
-        self.chains.pop(RequestIdentity { pe, cell })
+        let row = (pe % ROWS) as usize;
+        if row < self.rows.len() {
+            self.rows[row].take(pe, cell)
+        } else {
+            None
+        }
+    }
+
+    /// Has a list used again that is needed no more.
+    pub fn reuse(&mut self, list: Vec<NamedRequest>) -> Result<(), AllocError>
+        ensures { self.new.rows ≡ self.old.rows }
+    {
+        self.spare.push(list)?;
+        Ok(())
+    }
+
+    /// An empty list: one that was used before, if there is one.
+    fn empty_list(&mut self) -> Vec<NamedRequest>
+        ensures empty { result.items ≡ [] }
+        ensures rows { self.new.rows ≡ self.old.rows }
+    {
+        let mut list = match self.spare.pop() {
+            Some(list) => list,
+            None => Vec::new(self.alloc),
+        };
+        list.clear();
+        list
     }
 
     /// Keeps leaves as those of the request of a processing element for a cell.
     fn put(&mut self, pe: Pe, cell: Cell, leaves: Vec<NamedRequest>) -> Result<(), AllocError>
         ensures { OnOk result ((ks : List Kept) (t : Tree) → Keeps self.old ks → leaves.items ≡ leaves_in t → Keeps self.new (kept pe cell t ∷ ks)) }
     {
-        self.chains.push(RequestIdentity { pe, cell }, leaves)
+        let row = (pe % ROWS) as usize;
+        self.make_rows(row)?;
+        self.rows[row].put(PendingRequest { pe, cell, leaves })
     }
-}
 
-/// The leaves of two requests that have combined, in serial order.
-fn in_serial_order(
-    of_old: Vec<NamedRequest>,
-    of_new: Vec<NamedRequest>,
-    old_first: bool,
-) -> Result<Vec<NamedRequest>, AllocError>
-    ensures { IfOk result (λ v. v.items ≡ leaves_in_order old_first of_old.items of_new.items) }
-{
-    if old_first {
-        joined(of_old, of_new)
-    } else {
-        joined(of_new, of_old)
+    /// Makes the rows if they aren't made yet. No request changes.
+    fn make_rows(&mut self, row: usize) -> Result<(), AllocError>
+        requires { row < 64 }
+        ensures made { OnOk result (row < vec_len self.new.rows) }
+        ensures same { OnOk result ((p a : ℕ) → chains_in self.new.rows.items p a ≡ chains_in self.old.rows.items p a) }
+    {
+        if row < self.rows.len() {
+            return Ok(());
+        }
+        for _made in 0..ROWS {
+            self.add_row()?;
+        }
+        Ok(())
     }
-}
 
-/// Leaves, and then others.
-fn joined(
-    mut first: Vec<NamedRequest>,
-    second: Vec<NamedRequest>,
-) -> Result<Vec<NamedRequest>, AllocError>
-    ensures { IfOk result (λ v. v.items ≡ first.items ++ second.items) }
-{
-    first.extend_from_slice(second.as_slice())?;
-    Ok(first)
+    /// Adds a row without requests. No request changes.
+    fn add_row(&mut self) -> Result<(), AllocError>
+        ensures longer { OnOk result (vec_len self.new.rows ≡ vec_len self.old.rows + 1) }
+        ensures same { OnOk result ((p a : ℕ) → chains_in self.new.rows.items p a ≡ chains_in self.old.rows.items p a) }
+    {
+        self.rows.push(PendingRow::new(self.alloc))?;
+        Ok(())
+    }
+
+    /// The leaves of two requests that have combined, in serial order.
+    fn in_serial_order(
+        &mut self,
+        of_old: Vec<NamedRequest>,
+        of_new: Vec<NamedRequest>,
+        old_first: bool,
+    ) -> Result<Vec<NamedRequest>, AllocError>
+        ensures leaves { IfOk result (λ v. v.items ≡ leaves_in_order old_first of_old.items of_new.items) }
+        ensures rows { self.new.rows ≡ self.old.rows }
+    {
+        if old_first {
+            self.joined(of_old, of_new)
+        } else {
+            self.joined(of_new, of_old)
+        }
+    }
+
+    /// Leaves, and then others.
+    fn joined(
+        &mut self,
+        mut first: Vec<NamedRequest>,
+        second: Vec<NamedRequest>,
+    ) -> Result<Vec<NamedRequest>, AllocError>
+        ensures leaves { IfOk result (λ v. v.items ≡ first.items ++ second.items) }
+        ensures rows { self.new.rows ≡ self.old.rows }
+    {
+        first.extend_from_slice(second.as_slice())?;
+        self.reuse(second)?;
+        Ok(first)
+    }
 }

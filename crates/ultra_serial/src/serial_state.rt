@@ -4,11 +4,11 @@ ghost use Rattle.std.specs.Prelude.{◌≡◌, ℕ, [], ◌++◌, List, IfOk, On
 ghost use Rattle.ultra_serial_law.specs.declared.records.Entry.{Entry as Listed};
 ghost use Rattle.ultra_serial_law.specs.Legal.{cells_after, replayed};
 ghost use Rattle.ultra_serial_law.specs.SerialList.{History, empty_history, after_event, noted};
-ghost use Rattle.ultra_serial.specs.Memory.{cell_in};
+ghost use Rattle.ultra_serial.specs.DenseCells.{dense_cells};
 ghost use Rattle.ultra_serial.specs.Following.{Follows};
 ghost use Rattle.ultra_serial.specs.declared.serial_state.OrderFault.TheVariants.{NoMemory};
 
-use crate::memory::SerialMemory;
+use crate::dense_memory::DenseMemory;
 use crate::pending_requests::PendingRequests;
 use crate::{Entry, NamedRequest, SerialList};
 use std::alloc::{AllocError, AllocFailed, Global};
@@ -33,19 +33,23 @@ impl From<AllocError> for OrderFault {
 #[derive(Drop)]
 pub(crate) struct SerialState {
     waiting: PendingRequests,
-    memory: SerialMemory,
+    memory: DenseMemory,
     entries: SerialList,
 }
 
 impl SerialState {
-    /// Before the first cycle.
-    pub fn new(alloc: Global, initial: &[(Cell, Word)]) -> Result<SerialState, AllocError>
+    /// Before the first cycle, of a machine with so many cells.
+    pub fn new(
+        alloc: Global,
+        initial: &[(Cell, Word)],
+        all_cells: u32,
+    ) -> Result<SerialState, AllocError>
         ensures state { IfOk result (λ s. Follows initial.now [] s empty_history) }
         ensures entries { IfOk result (λ s. s.entries.items ≡ []) }
     {
         Ok(SerialState {
             waiting: PendingRequests::new(alloc),
-            memory: SerialMemory::new(alloc, initial)?,
+            memory: DenseMemory::new(alloc, initial, all_cells)?,
             entries: Vec::new(alloc),
         })
     }
@@ -88,7 +92,10 @@ impl SerialState {
         match *event {
             Event::Delivered(_) => Ok(()),
             Event::Served { request, .. } => match self.waiting.take(request.pe, request.cell) {
-                Some(leaves) => serve(&mut self.memory, &mut self.entries, leaves.as_slice()),
+                Some(leaves) => {
+                    serve(&mut self.memory, &mut self.entries, leaves.as_slice())?;
+                    self.waiting.reuse(leaves)
+                }
                 None => Ok(()),
             },
             Event::Combined {
@@ -105,12 +112,12 @@ impl SerialState {
 
 /// Leaves act on a memory in order, and are appended to a serial list.
 fn serve(
-    memory: &mut SerialMemory,
+    memory: &mut DenseMemory,
     order: &mut SerialList,
     leaves: &[NamedRequest],
 ) -> Result<(), AllocError>
-    ensures order { OnOk result (order.new.items ≡ order.old.items ++ replayed (cell_in memory.old) leaves.now) }
-    ensures cells { OnOk result (cell_in memory.new ≡ cells_after (cell_in memory.old) leaves.now) }
+    ensures order { OnOk result (order.new.items ≡ order.old.items ++ replayed (dense_cells memory.old) leaves.now) }
+    ensures cells { OnOk result (dense_cells memory.new ≡ cells_after (dense_cells memory.old) leaves.now) }
 {
     for leaf in leaves {
         let reply = memory.act(leaf.cell, leaf.op)?;

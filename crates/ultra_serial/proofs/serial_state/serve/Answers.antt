@@ -1,13 +1,13 @@
 use Rattle.std.proofs.Common.{◌≡◌, [], ◌∷◌, ◌++◌, take, get_or, arith, ap, sym, ◌∙◌, append_assoc}
 use Rattle.ultra_msg.specs.Act.{act}
 use Rattle.ultra_serial_law.specs.Legal.{Cells, with_cell, answered_by, cells_after, replayed}
-use Rattle.ultra_serial.specs.Memory.{cell_in}
+use Rattle.ultra_serial.specs.DenseCells.{dense_cells}
 use Rattle.ultra_serial.proofs.Turns.{replayed_more, cells_more, some_leaf}
 use Rattle.ultra_serial.proofs.serial_state.serve.Goals as goal
 
 pub loop-leaf-preserved : goal.loop-leaf-preserved
 loop-leaf-preserved c =
-    let m = cell_in c.args.memory.now in
+    let m = dense_cells c.args.memory.now in
     let ls = c.args.leaves.now in
     let k = c.loop-leaf.leaf-index in
     let x = get_or ls k some_leaf in

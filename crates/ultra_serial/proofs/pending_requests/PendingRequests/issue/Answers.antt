@@ -1,7 +1,14 @@
+use Rattle.std.proofs.Common.{◌∙◌, ap, [], ◌∷◌, ◌++◌}
 use Rattle.std.proofs.lemmas.Result.{on_ok_weaker}
 use Rattle.ultra_serial_law.specs.Tree.{leaf}
+use Rattle.ultra_serial_law.specs.declared.records.NamedRequest.{NamedRequest}
+use Rattle.ultra_serial.proofs.Stacks.{keeps_same}
 use Rattle.ultra_serial.proofs.pending_requests.PendingRequests.issue.Goals as goal
 
 pub returns : goal.returns
 returns c =
-    on_ok_weaker c.put.result (λ put ks keeps. put ks (leaf record { pe = c.args.request.pe; number = c.args.number; cell = c.args.request.cell; op = c.args.request.op }) keeps c.in_ok-leaves.ensures.items) c.put.ensures
+    let q = c.args.request in
+    let l : NamedRequest = record { pe = q.pe; number = c.args.number; cell = q.cell; op = q.op } in
+    on_ok_weaker c.put.result (λ put ks keeps.
+    put ks (leaf l) (keeps_same c.args.self.now c.empty_list-leaves.new.self ks c.empty_list-leaves.ensures.rows keeps)
+    (c.in_ok-push.ensures.items ∙ ap (λ us. us ++ l ∷ []) c.empty_list-leaves.ensures.empty)) c.put.ensures

@@ -1,28 +1,29 @@
 use Rattle.std.proofs.Common.{refl, sym, subst, ◌∙◌}
 use Rattle.std.specs.Prelude.{Result, Ok, Err, OnOk}
 use Rattle.std.proofs.lemmas.Result.{on_ok_weaker}
-use Rattle.ultra_serial_law.specs.Tree.{tree_of}
+use Rattle.ultra_serial_law.specs.Tree.{tree_of, without}
 use Rattle.ultra_serial.specs.declared.serial_state.SerialState.{SerialState}
 use Rattle.ultra_msg.specs.declared.Event.{Event}
 use Rattle.ultra_msg.specs.declared.Event.TheVariants.{Delivered, Served, Combined, Issued}
 use Rattle.ultra_serial_law.specs.SerialList.{after_event}
 use Rattle.ultra_serial.specs.Following.{Follows}
+use Rattle.ultra_serial.proofs.Stacks.{keeps_same}
 use Rattle.ultra_serial.proofs.Turns.{serving_more, nothing_served, leaves_taken, no_leaves_taken}
 use Rattle.ultra_serial.proofs.serial_state.SerialState.note.Goals as goal
 
-both : {T E P Q S : Type 0} (r : Result T E) → (P → Q → S) → OnOk r P → OnOk r Q → OnOk r S
-both (Ok x) f p q = f p q
-both (Err e) f p q = tt
+always : {T E P : Type 0} (r : Result T E) → P → OnOk r P
+always (Ok x) p = p
+always (Err e) p = tt
 
-pub returns-in-Some : goal.returns-in-Some
-returns-in-Some c =
+pub returns-in_ok-serve-in-Some : goal.returns-in_ok-serve-in-Some
+returns-in_ok-serve-in-Some c = always c.reuse.result (λ n initial listed h f.
     let r = c.in-Served.request in
-    let s : SerialState = record { waiting = c.take.new.self; memory = c.serve.new.memory; entries = c.serve.new.order } in
-    both c.serve.result (λ cells order n initial listed h f.
+    let s : SerialState = record { waiting = c.reuse.new.self; memory = c.serve.new.memory; entries = c.serve.new.order } in
     let same = leaves_taken (tree_of r.pe r.cell h.trees) c.take.result c.in-Some.leaves (c.take.ensures.taken h.trees f.waiting) c.in-Some.is ∙ sym c.as_slice.ensures.value in
+    let kept = keeps_same c.take.new.self c.reuse.new.self (without r.pe r.cell h.trees) c.reuse.ensures (c.take.ensures.kept h.trees f.waiting) in
     subst (λ (e : Event). Follows initial listed s (after_event n h e)) (sym c.in-Served.is)
     (serving_more initial listed c.args.self.now s n h c.as_slice.result.now (Served c.in-Served.module r c.in-Served.reply c.in-Served.now) same f
-    (c.take.ensures.kept h.trees f.waiting) cells order)) c.serve.ensures.cells c.serve.ensures.order
+    kept c.in_ok-serve-in-Some.ensures.cells c.in_ok-serve-in-Some.ensures.order))
 
 pub returns-in-Delivered : goal.returns-in-Delivered
 returns-in-Delivered c = λ n initial listed h f.

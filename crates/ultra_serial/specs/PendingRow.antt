@@ -1,0 +1,19 @@
+-- the requests of a row, by identity
+use Rattle.std.specs.Prelude.{ℕ, List, [], ◌∷◌, Bool, true, false, Option, option_map}
+use Rattle.std.specs.Global.{Vec}
+use Rattle.ultra_serial.specs.declared.pending_row.PendingRequest.{PendingRequest}
+use Rattle.ultra_serial_law.specs.declared.records.NamedRequest.{NamedRequest}
+use Rattle.ultra_serial.specs.ByPair.{is_pair}
+
+abbrev pub with_front : {X : Type 0} → Bool → X → List X → List X
+with_front true x xs = x ∷ xs
+with_front false x xs = xs
+
+-- the leaves of each request under an identity, in the order of the row
+abbrev pub leaves_under : ℕ → ℕ → List PendingRequest → List (List NamedRequest)
+leaves_under p a [] = []
+leaves_under p a (r ∷ rs) =
+    with_front (is_pair r.pe r.cell p a) r.leaves.items (leaves_under p a rs)
+
+abbrev pub items_in : Option (Vec NamedRequest) → Option (List NamedRequest)
+items_in o = option_map (λ (v : Vec NamedRequest). v.items) o
