@@ -1,7 +1,9 @@
 pub mod Kept
 pub mod Counted
-pub mod Latest
 pub mod Places
 pub mod Depths
 pub mod Listed
 pub mod Texts
+pub mod Under
+pub mod Rows
+pub mod Agreement

@@ -4,3 +4,4 @@ pub mod Seen
 pub mod Text
 pub mod Counts
 pub mod Places
+pub mod Slots

@@ -1,6 +1,6 @@
 -- how the trees of the code are seen as those of the definition
-use Rattle.std.specs.Prelude.{◌≡◌, ℕ, List, [], ◌∷◌, ◌++◌, Some, remove, slice_get}
-use Rattle.ultra_serial_law.specs.Tree.{Tree as SerialTree, leaf, pair, Kept, kept, tree_of, without}
+use Rattle.std.specs.Prelude.{ℕ}
+use Rattle.ultra_serial_law.specs.Tree.{Tree as SerialTree, leaf, pair}
 use Rattle.ultra_serial_law.specs.declared.records.NamedRequest.{NamedRequest}
 use Rattle.ultra_tree.specs.declared.listing.Leaf.{Leaf}
 use Rattle.ultra_tree.specs.declared.trees.CountedNode.{CountedNode, Pair'}
@@ -9,7 +9,6 @@ use Rattle.ultra_tree.specs.declared.trees.Tree.{Tree}
 use Rattle.ultra_tree.specs.declared.nodes.Node.{Node}
 use Rattle.ultra_tree.specs.declared.nodes.Node.TheVariants as matched
 use Rattle.ultra_tree.specs.declared.nodes.Part.{Part}
-use Rattle.ultra_tree.specs.declared.held.Held.{Held}
 
 -- a leaf with the cell that its request is for
 abbrev pub at_cell : ℕ → Leaf → NamedRequest
@@ -32,18 +31,3 @@ module _ {A : Type 0} where
   abbrev pub seen_node : ℕ → Node A → SerialTree
   seen_node a (matched.Leaf p n o) = leaf record { pe = p; number = n; cell = a; op = o }
   seen_node a (matched.Pair s x old new first) = pair s x (seen_part a old) (seen_part a new) first
-
-  abbrev pub kept_as : Held A → Kept
-  kept_as h = kept h.pe h.cell (seen h.cell h.tree)
-
-  -- the trees that are held, the latest first
-  abbrev pub trees_of : List (Held A) → List Kept
-  trees_of [] = []
-  trees_of (h ∷ hs) = trees_of hs ++ kept_as h ∷ []
-
-  -- at this place is the tree that was put last under an identity
-  pub record IsLatest (p a : ℕ) (hs : List (Held A)) (i : ℕ) : Type 0 where
-    pub held : Held A
-    pub at : slice_get hs i ≡ Some held
-    pub tree : tree_of p a (trees_of hs) ≡ Some (seen a held.tree)
-    pub rest : without p a (trees_of hs) ≡ trees_of (remove hs i)

@@ -9,10 +9,13 @@ ghost use Rattle.ultra_tree.specs.Absorb.{event_cell, nothing_absorbed, Explains
 ghost use Rattle.ultra_tree.specs.Seen.{seen};
 ghost use Rattle.ultra_tree.specs.declared.explaining.ExplainFault.TheVariants.{Full, Spent};
 
-use crate::held::{Held, count_of, place_of};
+use crate::order::Order;
+use crate::slots::{Slot, add_free, count_of, free_place, place_of};
 use crate::trees::Tree;
 use std::alloc::Allocator;
 use std::marker::Model;
+use std::mem;
+use std::snapshot::Snapshot;
 use ultra_model::Config;
 use ultra_msg::{Cell, Event, Pe, Request};
 
@@ -32,31 +35,36 @@ pub struct Explainer<A: Allocator> {
     elements: u32,
     most_open: u32,
     is_spent: bool,
-    /// The trees, the latest last. There is room for all that can be held.
-    held: Vec<Held<A>, A>,
+    /// The trees. Each processing element has `most_open` slots, one for each request that it can
+    /// have on its way.
+    slots: Vec<Slot<A>, A>,
+    /// The order of the trees, for contracts alone.
+    order: Order<A>,
 }
 
 impl<A: Allocator> Model for Explainer<A> {
     ghost use Rattle.std.specs.Prelude.{◌≤◌, ◌*◌};
     ghost use Rattle.std.specs.Vec.{vec_capacity};
     ghost use Rattle.ultra_tree.specs.Absorb.{Explained, AreWithin};
+    ghost use Rattle.ultra_tree.specs.Slots.{AreSlotsOf};
     ghost use Rattle.ultra_tree.specs.Stored.{explained_code};
 
     ghost Value = { Explained };
 
     ghost coded = { explained_code };
 
-    ghost use Rattle.ultra_tree.specs.Seen.{trees_of};
+    ghost use Rattle.ultra_tree.specs.Slots.{trees_of};
 
     ghost view = { λ e. record {
       elements = e.elements;
       most_open = e.most_open;
       is_spent = e.is_spent;
-      trees = trees_of e.held.items;
+      trees = trees_of e.order;
     } };
 
-    ghost invariant = { λ e. (e.elements * e.most_open ≤ vec_capacity e.held)
-        × AreWithin e.elements e.most_open (trees_of e.held.items) };
+    ghost invariant = { λ e. (e.elements * e.most_open ≤ vec_capacity e.slots)
+        × AreWithin e.elements e.most_open (trees_of e.order)
+        × AreSlotsOf e.elements e.most_open e.slots.items (trees_of e.order) };
 }
 
 impl<A: Allocator + Clone> Explainer<A> {
@@ -69,14 +77,16 @@ impl<A: Allocator + Clone> Explainer<A> {
         let elements = config.net().size();
         let most_open = config.most_open();
         let places = elements as usize * most_open as usize;
-        let Ok(held) = Vec::with_capacity(alloc, places) else {
+        let Ok(mut slots) = Vec::with_capacity(alloc, places) else {
             return Err(ExplainFault::Full);
         };
+        add_free(&mut slots, places);
         Ok(Explainer {
             elements,
             most_open,
             is_spent: false,
-            held,
+            slots,
+            order: Order::Empty,
         })
     }
 
@@ -84,8 +94,17 @@ impl<A: Allocator + Clone> Explainer<A> {
     pub fn tree_of(&self, pe: Pe, cell: Cell) -> Option<&Tree<A>>
         ensures { option_map (λ t. seen cell t.now) result ≡ tree_in pe cell self.now.trees }
     {
-        let place = place_of(self.held.as_slice(), pe, cell)?;
-        Some(&self.held[place].tree)
+        let place = place_of(
+            self.slots.as_slice(),
+            self.elements,
+            self.most_open,
+            pe,
+            cell,
+        )?;
+        match &self.slots[place] {
+            Slot::Free => None,
+            Slot::Held { tree, .. } => Some(tree),
+        }
     }
 
     /// Whether `absorb` may be called with an event. At `Served` and `Combined` the requests have
@@ -105,7 +124,7 @@ impl<A: Allocator + Clone> Explainer<A> {
             Event::Issued { request, .. } => {
                 !self.holds(request.pe, request.cell)
                     && request.pe < self.elements
-                    && count_of(self.held.as_slice(), request.pe) < self.most_open as usize
+                    && self.has_room(request.pe)
             }
         }
     }
@@ -115,7 +134,22 @@ impl<A: Allocator + Clone> Explainer<A> {
         ensures held { IsTrue result ↔ IsSome (tree_in pe cell self.now.trees) }
         ensures free { IsTrue (not result) ↔ (tree_in pe cell self.now.trees ≡ None) }
     {
-        place_of(self.held.as_slice(), pe, cell).is_some()
+        place_of(
+            self.slots.as_slice(),
+            self.elements,
+            self.most_open,
+            pe,
+            cell,
+        )
+        .is_some()
+    }
+
+    /// Whether a processing element of the machine can have one request more on its way.
+    fn has_room(&self, pe: Pe) -> bool
+        requires { pe < self.now.elements }
+        ensures { IsTrue result ↔ (held_by pe self.now.trees < self.now.most_open) }
+    {
+        count_of(self.slots.as_slice(), self.most_open, pe) < self.most_open as usize
     }
 
     /// Takes the tree of the request of a processing element for a cell.
@@ -125,29 +159,55 @@ impl<A: Allocator + Clone> Explainer<A> {
         ensures trees { self.new ≡ record self.old { trees = without pe cell self.old.trees } }
         ensures element { pe < self.old.elements }
         ensures room { held_by pe self.new.trees < self.old.most_open }
+        ensures free { tree_in pe cell self.new.trees ≡ None }
     {
-        let Some(place) = place_of(self.held.as_slice(), pe, cell) else {
+        let Some(place) = place_of(
+            self.slots.as_slice(),
+            self.elements,
+            self.most_open,
+            pe,
+            cell,
+        ) else {
             unreachable!()
         };
-        self.held.remove(place).tree
+        let Slot::Held { tree, .. } = mem::replace(&mut self.slots[place], Slot::Free) else {
+            unreachable!()
+        };
+        self.order = Order::Taken(
+            Snapshot::of(&self.order),
+            Snapshot::of(&pe),
+            Snapshot::of(&cell),
+        );
+        tree
     }
 
     /// Holds a tree under an identity.
     fn put(&mut self, pe: Pe, cell: Cell, tree: Tree<A>)
         requires element { pe < self.old.elements }
         requires room { held_by pe self.old.trees < self.old.most_open }
+        requires free { tree_in pe cell self.old.trees ≡ None }
         ensures { self.new
             ≡ record self.old { trees = kept pe cell (seen cell tree) ∷ self.old.trees } }
     {
-        self.held.push_reserved(Held { pe, cell, tree });
+        let place = free_place(self.slots.as_slice(), self.most_open, pe);
+        self.order = Order::Put(
+            Snapshot::of(&self.order),
+            Snapshot::of(&pe),
+            Snapshot::of(&cell),
+            Snapshot::of(&tree),
+        );
+        self.slots[place] = Slot::Held { cell, tree };
     }
 
     /// Drops the trees for good.
     fn give_up(&mut self)
         ensures { self.new ≡ record self.old { is_spent = true; trees = [] } }
     {
+        let places = self.elements as usize * self.most_open as usize;
         self.is_spent = true;
-        self.held.clear();
+        self.slots.clear();
+        add_free(&mut self.slots, places);
+        self.order = Order::Empty;
     }
 
     /// Absorbs an event of the machine. At `Served` it gives the tree of the request that was
@@ -215,7 +275,7 @@ impl<A: Allocator + Clone> Explainer<A> {
     {
         let of_old = self.take(old, cell);
         let of_new = self.take(new, cell);
-        let alloc = self.held.allocator();
+        let alloc = self.slots.allocator();
         match Tree::pair(alloc, stage, position, of_old, of_new, old_first) {
             Ok(tree) => {
                 self.put(old, cell, tree);

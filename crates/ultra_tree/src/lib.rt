@@ -3,9 +3,10 @@
 
 mod explaining;
 mod heights;
-mod held;
 mod listing;
 mod nodes;
+mod order;
+mod slots;
 mod trees;
 mod writing;
 

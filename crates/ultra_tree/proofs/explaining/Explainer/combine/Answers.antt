@@ -23,3 +23,8 @@ put-requires-clause-room g c =
     let two = ap (λ (v : Explained). v.most_open) c.take-of_new.ensures.trees in
     let less = ap (λ (v : Explained). held_by c.args.old v.trees) c.take-of_new.ensures.trees in
     omega (arith, one, two, less, fewer_rest c.args.old c.args.new c.args.cell c.take-of_old.new.self.trees, c.take-of_old.ensures.room)
+
+pub put-requires-clause-free : goal.put-requires-clause-free
+put-requires-clause-free g c =
+    let rest = ap (λ (v : Explained). tree_of c.args.old c.args.cell v.trees) c.take-of_new.ensures.trees in
+    rest ∙ (tree_other c.args.new c.args.old c.args.cell c.args.cell (λ e. c.requires.held.0 (sym e)) c.take-of_old.new.self.trees ∙ c.take-of_old.ensures.free)

@@ -1,30 +1,46 @@
-use Rattle.std.proofs.Common.{ap, subst, sym, ◌∙◌, arith, ◌∷◌}
-use Rattle.ultra_serial_law.specs.Tree.{kept}
+use Rattle.std.proofs.Common.{◌≡◌, ◌∷◌, length, set, ap, subst, sym, ◌∙◌, arith}
+use Rattle.std.proofs.lemmas.Option.{slice_get_within}
+use Rattle.ultra_serial_law.specs.Tree.{kept, tree_of}
 use Rattle.ultra_serial_law.specs.Explicable.{held_by}
 use Rattle.ultra_tree.specs.Absorb.{Explained, AreWithin}
-use Rattle.ultra_tree.specs.Seen.{seen, trees_of}
-use Rattle.ultra_tree.proofs.Counted.{room_for, within_more}
-use Rattle.ultra_tree.proofs.Latest.{length_trees, trees_push}
+use Rattle.ultra_tree.specs.Seen.{seen}
+use Rattle.ultra_tree.specs.Slots.{AreSlotsOf, IsFreePlace, trees_of}
+use Rattle.ultra_tree.specs.declared.slots.Slot.TheVariants.{Free, Held}
+use Rattle.ultra_tree.proofs.Counted.{within_more}
+use Rattle.ultra_tree.proofs.Rows.{row_within}
+use Rattle.ultra_tree.proofs.Agreement.{slots_put}
 use Rattle.ultra_tree.proofs.explaining.Explainer.put.Goals as goal
 
-pub push_reserved-requires : goal.push_reserved-requires
-push_reserved-requires g c =
+pub free_place-place-requires-clause-within : goal.free_place-place-requires-clause-within
+free_place-place-requires-clause-within g c =
     let n = ap (λ (v : Explained). v.elements) c.self.view_is in
-    let m = ap (λ (v : Explained). v.most_open) c.self.view_is in
-    let h = ap (λ (v : Explained). held_by c.args.pe v.trees) c.self.view_is in
-    let few = room_for c.self.inside.elements c.self.inside.most_open c.args.pe (trees_of c.self.inside.held.items) c.self.invariant.1 (omega (arith, n, c.requires.element)) (omega (arith, m, h, c.requires.room)) in
-    omega (arith, few, length_trees c.self.inside.held.items, c.self.inside.held.ok.0, c.self.invariant.0)
+    let within = row_within c.self.inside.elements c.self.inside.most_open c.args.pe (omega (arith, n, c.requires.element)) in
+    let all = ap (λ ss. length ss) c.as_slice.ensures.value in
+    omega (arith, within, all, c.self.invariant.2.size)
+
+pub index_mut-requires : goal.index_mut-requires
+index_mut-requires g c =
+    let at = subst (λ us. IsFreePlace c.self.inside.most_open c.args.pe us c.free_place-place.result) c.as_slice.ensures.value c.free_place-place.ensures in
+    let within = slice_get_within c.self.inside.slots.items c.free_place-place.result Free at.at in
+    omega (arith, within, c.self.inside.slots.ok.0)
 
 pub invariant_of-self : goal.invariant_of-self
 invariant_of-self g c =
-    let n = ap (λ (v : Explained). v.elements) c.self.view_is in
-    let m = ap (λ (v : Explained). v.most_open) c.self.view_is in
-    let h = ap (λ (v : Explained). held_by c.args.pe v.trees) c.self.view_is in
-    let w = within_more c.self.inside.elements c.self.inside.most_open c.args.pe c.args.cell (seen c.args.cell c.args.tree) (trees_of c.self.inside.held.items) c.self.invariant.1 (omega (arith, n, c.requires.element)) (omega (arith, m, h, c.requires.room)) in
-    let t = ap (λ us. trees_of us) c.push_reserved.ensures.items ∙ trees_push c.self.inside.held.items _ in
-    (omega (arith, c.self.invariant.0, c.push_reserved.ensures.capacity), subst (λ us. AreWithin c.self.inside.elements c.self.inside.most_open us) (sym t) w)
-
-pub returns : goal.returns
-returns g c =
-    let t = ap (λ us. trees_of us) c.push_reserved.ensures.items ∙ (trees_push c.self.inside.held.items _ ∙ ap (λ (v : Explained). kept c.args.pe c.args.cell (seen c.args.cell c.args.tree) ∷ v.trees) c.self.view_is) in
-    λ i. record { elements = (c.self.view_is i).elements; most_open = (c.self.view_is i).most_open; is_spent = (c.self.view_is i).is_spent; trees = t i }
+    let p = c.args.pe in
+    let a = c.args.cell in
+    let n = c.self.inside.elements in
+    let m = c.self.inside.most_open in
+    let ss = c.self.inside.slots.items in
+    let ks = trees_of c.self.inside.order in
+    let i = c.free_place-place.result in
+    let of_pes = ap (λ (v : Explained). v.elements) c.self.view_is in
+    let most = ap (λ (v : Explained). v.most_open) c.self.view_is in
+    let held = ap (λ (v : Explained). held_by p v.trees) c.self.view_is in
+    let none = ap (λ (v : Explained). tree_of p a v.trees) c.self.view_is ∙ c.requires.free in
+    let at = subst (λ us. IsFreePlace m p us i) c.as_slice.ensures.value c.free_place-place.ensures in
+    let trees : (kept c.of-2.result.value c.of-3.result.value (seen c.of-3.result.value c.of-4.result.value) ∷ trees_of c.of.result.value) ≡ (kept p a (seen a c.args.tree) ∷ ks) = cc in
+    let within = within_more n m p a (seen a c.args.tree) ks c.self.invariant.1 (omega (arith, of_pes, c.requires.element)) (omega (arith, most, held, c.requires.room)) in (
+      c.self.invariant.0,
+      subst (λ us. AreWithin n m us) (sym trees) within,
+      subst (λ us. AreSlotsOf n m (set ss i (Held a c.args.tree)) us) (sym trees) (slots_put n m p a ss ks i c.self.invariant.2 at none c.args.tree),
+    )

@@ -1,0 +1,21 @@
+use Rattle.std.proofs.Common.{◌*◌, ◌≤◌, length, ap, sym, ◌∙◌, arith}
+use Rattle.ultra_tree.specs.Slots.{trees_under}
+use Rattle.ultra_tree.proofs.Rows.{slots_past, row_past, row_within, first_for, still_none}
+use Rattle.ultra_tree.proofs.slots.place_of.Goals as goal
+
+pub returns-then-pe-elements-clause-none : goal.returns-then-pe-elements-clause-none
+returns-then-pe-elements-clause-none g c =
+    let p = c.args.pe in
+    let m = c.args.most_open in
+    let past : length c.args.slots.now ≤ p * m = omega (arith, c.requires, row_past c.args.elements m p c.if-pe-elements.true) in
+    ap (λ us. trees_under p c.args.cell us) (slots_past p c.args.slots.now (p * m) m past)
+
+pub returns-then-is_for-clause-found : goal.returns-then-is_for-clause-found
+returns-then-is_for-clause-found g c =
+    let within = row_within c.args.elements c.args.most_open c.args.pe c.if-pe-elements.false in
+    first_for c.args.pe c.args.cell c.args.most_open c.args.slots.now c.loop-place.place c.index-slots-place.result (omega (arith, within, c.requires, c.loop-place-test.true)) c.index-slots-place.is (sym c.is_for.ensures ∙ c.if-is_for.true) c.loop-place.auto.place c.loop-place-test.true c.loop-place.invariant
+
+pub loop-place-preserved : goal.loop-place-preserved
+loop-place-preserved g c =
+    let within = row_within c.args.elements c.args.most_open c.args.pe c.if-pe-elements.false in
+    still_none c.args.pe c.args.cell c.args.slots.now (c.args.pe * c.args.most_open) c.loop-place.place c.index-slots-place.result c.loop-place.auto.place (omega (arith, within, c.requires, c.loop-place-test.true)) c.index-slots-place.is (sym c.is_for.ensures ∙ c.if-is_for.false) c.loop-place.invariant
