@@ -128,3 +128,19 @@ module _ (p : ℕ → Bool) (n m : ℕ) (f : ℕ → ℕ) (even : m ≡ 2 * n) w
       ∙ upto_same max n (λ k. pair (0 + k)) pair (λ k h. ap pair (omega arith))
       ∙ sym (upto_pairs max max_left max_right max_assoc n m f even)
       ∙ sym (greatest_upto m f)
+
+-- of the values of n places, of those that pass a test, where the others are 0
+module _ (p : ℕ → Bool) (n : ℕ) (f : ℕ → ℕ) (none : (k : ℕ) → k < n → p k ≡ false → f k ≡ 0) where
+  pub added_singly : added f (filter p (range_with_len 0 n)) ≡ total n f
+  added_singly =
+      along_skipped plus plus_left plus_right plus_assoc p f 0 n (λ k h. none k (omega arith))
+      ∙ along_range plus plus_left plus_right plus_assoc f 0 n
+      ∙ upto_same plus n (λ k. f (0 + k)) f (λ k h. ap f (omega arith))
+      ∙ sym (total_upto n f)
+
+  pub topmost_singly : topmost f (filter p (range_with_len 0 n)) ≡ greatest n f
+  topmost_singly =
+      along_skipped max max_left max_right max_assoc p f 0 n (λ k h. none k (omega arith))
+      ∙ along_range max max_left max_right max_assoc f 0 n
+      ∙ upto_same max n (λ k. f (0 + k)) f (λ k h. ap f (omega arith))
+      ∙ sym (greatest_upto n f)

@@ -11,3 +11,8 @@ pub mod ModuleCounts
 pub mod Chain
 pub mod Ends
 pub mod Windows
+pub mod Tallies
+pub mod PeSets
+pub mod Known
+pub mod InterfaceSums
+pub mod Resting

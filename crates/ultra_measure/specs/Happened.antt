@@ -11,6 +11,11 @@ abbrev pub is_delivery : Event → Bool
 is_delivery (Delivered r) = true
 is_delivery e = false
 
+-- to processing element p
+abbrev pub is_delivery_to : ℕ → Event → Bool
+is_delivery_to p (Delivered r) = r.pe == p
+is_delivery_to p e = false
+
 abbrev pub is_act : Event → Bool
 is_act (Served k r v now) = true
 is_act e = false

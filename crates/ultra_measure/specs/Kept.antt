@@ -16,6 +16,7 @@ use Rattle.ultra_measure.specs.declared.happened.EventSums.{EventSums}
 use Rattle.ultra_measure.specs.declared.window.Window.{Window}
 use Rattle.ultra_measure.specs.Window.{sum_of, most_of, greatest}
 use Rattle.ultra_measure.specs.Happened.{is_issue, is_delivery, is_act, is_act_of, is_combination, is_combination_in}
+use Rattle.ultra_measure.specs.ElementStates.{AreSeen}
 use Rattle.ultra_measure.specs.Held.{held_at, full_at, running, stalled, opened, pending, waiting_in, waiting_out}
 
 module _ (c : Settings) (program : List Instr) (from to : ℕ) where
@@ -48,6 +49,7 @@ module _ (c : Settings) (program : List Instr) (from to : ℕ) where
     pub pending_most : s.pending_most
         ≡ most_of c program from to (λ m. greatest (size c) (pending m))
     pub pending : IsSum (λ m. total (size c) (pending m)) s.pending
+    pub states : AreSeen c program (after c program to) s.states
 
   -- the sums and the mosts of what stages hold of a kind, and the sums of what is full
   pub record AreDepths (held : Held) (d : Depths) : Type 0 where

@@ -8,3 +8,6 @@ pub mod Sums
 pub mod Kept
 pub mod Rows
 pub mod Running
+pub mod Tally
+pub mod PeSet
+pub mod ElementStates

@@ -1,91 +1,82 @@
-//! What the processing elements of a machine are doing, and the sums over cycles.
+//! What the processing elements of a machine are doing, over cycles.
 
-ghost use Rattle.std.specs.Prelude.{◌≡◌, ℕ, List, ◌+◌, ◌^◌, ◌<◌, ◌≤◌, length, max};
+ghost use Rattle.std.specs.Prelude.{◌≡◌, ℕ, List, ◌+◌, ◌*◌, ◌^◌, ◌<◌, ◌≤◌, true};
 ghost use Rattle.ultra_isa.specs.declared.Instr.{Instr as InstrOf};
 ghost use Rattle.ultra_model.specs.Machine.{Settings, size};
-ghost use Rattle.ultra_model.specs.Balance.{total, weight};
-ghost use Rattle.ultra_measure.specs.Held.{running, stalled, opened, pending};
+ghost use Rattle.ultra_model.specs.Balance.{total};
+ghost use Rattle.ultra_topology.specs.Numbers.{IsSmall};
+ghost use Rattle.ultra_measure.specs.Held.{AreUnitsWith, pending};
 ghost use Rattle.ultra_measure.specs.Kept.{AreElementSums, IsAfterCycle};
 ghost use Rattle.ultra_measure.specs.Window.{greatest};
+ghost use Rattle.ultra_block.specs.Held.TheVariants.{Request};
 
-use ultra_block::Blocks;
+use crate::element_states::ElementStates;
+use crate::queues::net_of;
+use ultra_block::{Blocks, Held};
+use ultra_holders::elements_in;
+use ultra_route::Net;
+use ultra_topology::{UnitSet, is_small};
 
-/// How many processing elements run, how many of these would stall next, and how many cells are
-/// open, over all of them. Also how many requests aren't in the network yet, over all of them, and
-/// the most that one has.
+/// How many requests wait in all interfaces, and the most in one.
 #[derive(Clone, Copy, Drop)]
-pub(crate) struct ElementsNow {
-    /// Neither halted nor faulted.
-    pub(crate) running: u32,
-    /// Of these, those whose next step would stall.
-    pub(crate) stalled: u32,
-    /// Open cells.
-    pub(crate) open: u32,
-    /// Requests that wait in interfaces.
-    pub(crate) pending: u32,
-    /// The most of one interface.
-    pub(crate) pending_most: u32,
+pub(crate) struct Pending {
+    /// All together.
+    pub(crate) sum: u32,
+    /// The most.
+    pub(crate) most: u32,
 }
 
-/// What the processing elements of a machine are doing.
-pub(crate) fn elements_now(blocks: &Blocks) -> ElementsNow
-    ensures running { result.running ≡ total (size blocks.now.config) (running blocks.now.machine) }
-    ensures stalled { result.stalled ≡
-        total (size blocks.now.config)
-        (stalled blocks.now.config blocks.now.program blocks.now.machine) }
-    ensures open { result.open ≡ total (size blocks.now.config) (opened blocks.now.machine) }
-    ensures pending { result.pending ≡ total (size blocks.now.config) (pending blocks.now.machine) }
-    ensures few { (result.running ≤ 512) × (result.stalled ≤ 512) × (result.open ≤ 512) ×
-        (result.pending ≤ 512) }
-    ensures pending_most { result.pending_most ≡
-        greatest (size blocks.now.config) (pending blocks.now.machine) }
+/// The requests that wait in interfaces. Small machines use a specialised copy.
+#[inline(always)]
+fn pending_now(blocks: &Blocks) -> Pending
+    requires { blocks.now.count ≡ 1 }
+    ensures sum { result.sum ≡ total (size blocks.now.config) (pending blocks.now.machine) }
+    ensures most { result.most ≡ greatest (size blocks.now.config) (pending blocks.now.machine) }
+    ensures few { result.sum ≤ 128 * 64 }
 {
-    let mut all = ElementsNow {
-        running: 0,
-        stalled: 0,
-        open: 0,
-        pending: 0,
-        pending_most: 0,
-    };
-    for pe in 0..blocks.config().net().size() {
-        let one = element_now(blocks, pe);
-        all.running += one.running;
-        all.stalled += one.stalled;
-        all.open += one.open;
-        all.pending += one.pending;
-        all.pending_most = all.pending_most.max(one.pending);
+    let net = net_of(blocks);
+    let holders = blocks.holding_of_one(Held::Request);
+    if is_small(net) {
+        pending_in::<true>(blocks, net, holders)
+    } else {
+        pending_in::<false>(blocks, net, holders)
     }
-    all
 }
 
-/// What one processing element is doing.
-fn element_now(blocks: &Blocks, pe: u32) -> ElementsNow
+/// The requests that wait in interfaces. `holders` are the units that hold requests.
+#[inline(always)]
+fn pending_in<const SMALL: bool>(blocks: &Blocks, net: Net, holders: &UnitSet) -> Pending
+    requires net { net ≡ blocks.now.config.stages }
+    requires small { SMALL ≡ true → IsSmall net }
+    requires holders { AreUnitsWith blocks.now Request holders.now }
+    ensures sum { result.sum ≡ total (size blocks.now.config) (pending blocks.now.machine) }
+    ensures most { result.most ≡ greatest (size blocks.now.config) (pending blocks.now.machine) }
+    ensures few { result.sum ≤ 128 * 64 }
+{
+    // for the prover: there are at most 64 processing elements
+    let _most = net.size();
+    let mut sum: u32 = 0;
+    let mut most: u32 = 0;
+    for pe in elements_in::<SMALL>(net, holders) {
+        let here = pending_of(blocks, pe);
+        sum += here;
+        most = most.max(here);
+    }
+    Pending { sum, most }
+}
+
+/// How many requests wait in the interface of a processing element.
+#[inline(always)]
+fn pending_of(blocks: &Blocks, pe: u32) -> u32
     requires { pe < 2 ^ blocks.now.config.stages }
-    ensures running { result.running ≡ running blocks.now.machine pe }
-    ensures stalled { result.stalled ≡
-        stalled blocks.now.config blocks.now.program blocks.now.machine pe }
-    ensures open { result.open ≡ opened blocks.now.machine pe }
-    ensures pending { result.pending ≡ pending blocks.now.machine pe }
-    ensures few { (result.running ≤ 8) × (result.stalled ≤ 8) × (result.open ≤ 8) ×
-        (result.pending ≤ 8) }
+    ensures value { result ≡ pending blocks.now.machine pe }
+    ensures few { result ≤ 8 }
 {
-    let element = blocks.element(pe);
-    let pending = element.interface.pending_count() as u32;
-    ElementsNow {
-        running: u32::from(!element.processor.has_stopped()),
-        stalled: u32::from(
-            element
-                .processor
-                .would_stall(blocks.program(), &element.interface),
-        ),
-        open: element.interface.open_count() as u32,
-        pending,
-        pending_most: pending,
-    }
+    blocks.element(pe).interface.pending_count() as u32
 }
 
 /// The sums over cycles, and the most requests that ever waited in one interface.
-#[derive(Clone, Copy, Drop)]
+#[derive(Drop)]
 pub(crate) struct ElementSums {
     /// Those that ran.
     pub(crate) running: u64,
@@ -97,12 +88,14 @@ pub(crate) struct ElementSums {
     pub(crate) pending: u64,
     /// The most of one interface.
     pub(crate) pending_most: u32,
+    /// What each was doing when it was last looked at.
+    pub(crate) states: ElementStates,
 }
 
 impl ElementSums {
     /// Over no cycle.
-    pub(crate) fn new() -> ElementSums
-        ensures { (c : Settings) (program : List InstrOf) (from : ℕ) →
+    pub(crate) fn new(net: Net) -> ElementSums
+        ensures { (c : Settings) (program : List InstrOf) (from : ℕ) → c.stages ≡ net →
             AreElementSums c program from from result }
     {
         ElementSums {
@@ -111,21 +104,28 @@ impl ElementSums {
             open: 0,
             pending: 0,
             pending_most: 0,
+            states: ElementStates::new(net),
         }
     }
 
     /// Over one cycle more. `from` is the first, and `cycle` this one.
     pub(crate) fn note_cycle(&mut self, blocks: &Blocks, from: u32, cycle: u32)
+        requires one { blocks.now.count ≡ 1 }
         requires run { IsAfterCycle cycle blocks.now }
         requires order { from ≤ cycle }
         requires kept { AreElementSums blocks.now.config blocks.now.program from cycle self.old }
         ensures { AreElementSums blocks.now.config blocks.now.program from (cycle + 1) self.new }
     {
-        let now = elements_now(blocks);
-        self.running += u64::from(now.running);
-        self.stalled += u64::from(now.stalled);
-        self.open += u64::from(now.open);
-        self.pending += u64::from(now.pending);
-        self.pending_most = self.pending_most.max(now.pending_most);
+        // for the prover: a machine has at most 64 processing elements
+        let _net = net_of(blocks);
+        self.states.note_cycle(blocks, cycle);
+        let pending = pending_now(blocks);
+        // three sums in one
+        let all = self.states.tally.sum();
+        self.running += u64::from(all % 0x100);
+        self.stalled += u64::from(all / 0x100 % 0x100);
+        self.open += u64::from(all / 0x1_0000);
+        self.pending += u64::from(pending.sum);
+        self.pending_most = self.pending_most.max(pending.most);
     }
 }

@@ -3,11 +3,14 @@
 
 mod columns;
 mod depths;
+mod element_states;
 mod elements;
 mod happened;
 mod measuring;
+mod pe_set;
 mod queues;
 mod registers;
+mod tally;
 mod window;
 
 pub use columns::measure_names;

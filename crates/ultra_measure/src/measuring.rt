@@ -12,6 +12,7 @@ ghost use Rattle.ultra_measure.specs.Running.{AreAfter, IsOn, IsWindowRun};
 ghost use Rattle.ultra_measure.specs.Texts.{end_if, HasWindows, measured, window_of, window_count};
 
 use crate::columns::{Form, measure_names, put_row};
+use crate::queues::net_of;
 use crate::window::Window;
 use std::alloc::Global;
 use ultra_block::Blocks;
@@ -173,7 +174,8 @@ fn run_window(blocks: &mut Blocks, table: &mut OpenTable, from: u32, every: u32)
 {
     let most = blocks.config().cycles();
     let end = from + every.min(most - from);
-    let mut window = Window::new(from);
+    let net = net_of(blocks);
+    let mut window = Window::new(net, from);
     for cycle in from..end {
         blocks.cycle();
         window.note_cycle(table, blocks, cycle);

@@ -77,12 +77,26 @@ fn depth_of_switch(blocks: &Blocks, held: Held, places: u32, stage: u32, switch:
     Depth {
         sum: one + two,
         most: one.max(two),
-        full: count_if_full(places, one) + count_if_full(places, two),
+        full: count_full(places, one, two),
+    }
+}
+
+/// How many of two have all places taken. Mostly neither has, and then each isn't tested.
+#[inline(always)]
+fn count_full(places: u32, one: u32, two: u32) -> u32
+    ensures value { result ≡ is_full places one + is_full places two }
+    ensures few { result ≤ 2 }
+{
+    if places == 0 || one.max(two) < places {
+        0
+    } else {
+        count_if_full(places, one) + count_if_full(places, two)
     }
 }
 
 /// 1 where all places are taken, and else 0. What has no place is never full.
-#[inline(always)]
+#[cold]
+#[inline(never)]
 fn count_if_full(places: u32, held: u32) -> u32
     ensures value { result ≡ is_full places held }
     ensures few { result ≤ 1 }

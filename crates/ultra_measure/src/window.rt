@@ -12,6 +12,7 @@ use crate::happened::EventSums;
 use crate::registers::{inputs_now, outputs_now};
 use ultra_block::{Blocks, Held};
 use ultra_latency::{Latencies, OpenTable, law_of_few_events, law_of_open_requests};
+use ultra_route::Net;
 
 /// The numbers of a window: the cycles from one on.
 #[derive(Drop)]
@@ -37,14 +38,15 @@ pub(crate) struct Window {
 }
 
 impl Window {
-    /// A window that begins with a cycle, before it.
-    pub(crate) fn new(from: u32) -> Window
+    /// A window that begins with a cycle, before it, in a machine of this network.
+    pub(crate) fn new(net: Net, from: u32) -> Window
         ensures from { result.from ≡ from }
-        ensures kept { (c : Settings) (program : List InstrOf) → IsKept c program from from result }
+        ensures kept { (c : Settings) (program : List InstrOf) → c.stages ≡ net →
+            IsKept c program from from result }
     {
         let events = EventSums::new();
         let latencies = Latencies::new();
-        let elements = ElementSums::new();
+        let elements = ElementSums::new(net);
         let depths = Depths::new();
         Window {
             from,

@@ -38,7 +38,7 @@ pub(crate) struct SerialState {
 }
 
 impl SerialState {
-    /// Before the first cycle, of a machine with so many cells.
+    /// Before the first cycle, of a machine with `cells` cells.
     pub fn new(
         alloc: Global,
         initial: &[(Cell, Word)],

@@ -17,7 +17,7 @@ loop-cycle-init c =
       busy = on.busy;
       within = on.within;
       from = c.new-window.ensures.from;
-      kept = c.new-window.ensures.kept first.config first.program;
+      kept = c.new-window.ensures.kept first.config first.program (sym c.net_of-net.ensures.value);
     }
 
 pub cycle-requires : goal.cycle-requires
