@@ -38,7 +38,7 @@ pub(crate) struct SerialState {
 }
 
 impl SerialState {
-    /// Before the first cycle, of a machine with `cells` cells.
+    /// Before the first cycle, of a machine with `all_cells` cells.
     pub fn new(
         alloc: Global,
         initial: &[(Cell, Word)],
