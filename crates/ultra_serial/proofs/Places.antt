@@ -1,13 +1,11 @@
--- lists by name, where a place is made, or the list of a name changes
-use Rattle.std.proofs.Common.{◌≡◌, ℕ, zero, suc, ◌<◌, ◌⊎◌, List, [], ◌∷◌, ◌++◌, Bool, true, false, length, set, get_or, refl, sym, arith, ap, ◌∙◌, inl, inr, subst}
-use Rattle.std.specs.Prelude.{◌≢◌, Some, None, slice_get}
+-- lists by name, where a place is made or set, or an item comes to the map
+use Rattle.std.proofs.Common.{◌≡◌, ℕ, zero, suc, ◌<◌, ◌≤◌, ◌⊎◌, List, [], ◌∷◌, ◌++◌, Bool, true, false, length, set, get_or, refl, sym, arith, ap, ◌∙◌, inl, inr, subst}
+use Rattle.std.specs.Prelude.{◌≢◌, Some, slice_get, slice_index}
 use Rattle.std.specs.Global.{Vec}
 use Rattle.std.proofs.lemmas.Bool.{cases_eq}
 use Rattle.std.proofs.lemmas.Option.{slice_get_past, slice_get_read}
-use Rattle.ultra_serial.specs.declared.small_list.SmallList.{SmallList}
-use Rattle.ultra_serial.specs.declared.small_list.SmallList.TheVariants.{Empty}
 use Rattle.ultra_serial.specs.ByPair.{is_pair, with_item, lists_with}
-use Rattle.ultra_serial.specs.ByName.{small_items, place_in, place_of, placed}
+use Rattle.ultra_serial.specs.ByName.{one_at, place_in, place_of, or_else}
 use Rattle.ultra_serial.proofs.ByPair.{same_pair}
 use Rattle.ultra_serial.proofs.RecordsByName.{pair_same}
 
@@ -34,74 +32,86 @@ get_before_end [] (suc j) y n = refl
 get_before_end (x ∷ xs) zero y n = refl
 get_before_end (x ∷ xs) (suc j) y n = get_before_end xs j y (λ e. n (ap suc e))
 
--- an element that is read twice
-pub same_read : {X : Type 0} (xs : List X) (n i : ℕ) (x y : X) → n ≡ length xs → i < n → x ≡ get_or xs i x → y ≡ get_or xs i y → x ≡ y
-same_read xs n i x y e l a b =
-    let s = slice_get_read xs n i x e l a in
-    let t = slice_get_read xs n i y e l b in
+-- a zero more changes no place
+pub index_more : (xs : List ℕ) (k : ℕ) → slice_index (xs ++ 0 ∷ []) k ≡ slice_index xs k
+index_more [] zero = refl
+index_more [] (suc k) = refl
+index_more (x ∷ xs) zero = refl
+index_more (x ∷ xs) (suc k) = index_more xs k
+
+pub index_past : (xs : List ℕ) (k : ℕ) → length xs ≤ k → slice_index xs k ≡ 0
+index_past [] k le = refl
+index_past (x ∷ xs) zero le = absurd (omega (arith, le))
+index_past (x ∷ xs) (suc k) le = index_past xs k (omega (arith, le))
+
+-- an element that is read
+pub same_item : {X : Type 0} (xs : List X) (i : ℕ) (x y : X) → i < length xs → x ≡ get_or xs i x → slice_get xs i ≡ Some y → x ≡ y
+same_item xs i x y l a b =
+    let s = slice_get_read xs (length xs) i x refl l a in
     cc
 
-pub empty_is : {X : Type 0} (xs : List X) → length xs ≡ 0 → xs ≡ []
-empty_is [] e = refl
-empty_is (x ∷ xs) e = absurd (omega (arith, e))
+-- ---- places
+module _ (rows : List (Vec ℕ)) (p : ℕ) (old new : Vec ℕ) (within : p < length rows) (here : slice_get rows p ≡ Some old) where
+  in_row : (b : ℕ) → place_of rows p b ≡ slice_index old.items b
+  in_row b = ap (λ o. place_in o b) here
 
-module _ {X : Type 0} (rows : List (Vec (SmallList X))) (p n : ℕ) where
-  -- the lists of names without a place
-  module _ (x : X) (other more : ℕ → ℕ → List X) (absent : place_of rows p n ≡ None) (grown : (a b : ℕ) → more a b ≡ lists_with other p n x a b) where
-    other_when : (a b : ℕ) (t : Bool) → is_pair p n a b ≡ t → placed (place_of rows a b) (more a b) ≡ with_item t (placed (place_of rows a b) (other a b)) x
-    other_when a b true e =
-        let at = same_pair p n a b e in
-        let none : place_of rows a b ≡ None = ap (λ i. place_of rows i b) (sym at.0) ∙ ap (λ i. place_of rows p i) (sym at.1) ∙ absent in
-        let new : more a b ≡ other a b ++ x ∷ [] = grown a b ∙ ap (λ t. with_item t (other a b) x) e in
-        ap (λ o. placed o (more a b)) none ∙ new ∙ ap (λ o. placed o (other a b) ++ x ∷ []) (sym none)
-    other_when a b false e = ap (λ us. placed (place_of rows a b) us) (grown a b ∙ ap (λ t. with_item t (other a b) x) e)
+  in_new_row : (b : ℕ) → place_of (set rows p new) p b ≡ slice_index new.items b
+  in_new_row b = ap (λ o. place_in o b) (get_set rows p new within)
 
-    pub other_pushed : (a b : ℕ) → placed (place_of rows a b) (more a b) ≡ lists_with (λ a b. placed (place_of rows a b) (other a b)) p n x a b
-    other_pushed a b = other_when a b (is_pair p n a b) refl
+  in_other_row : (a b : ℕ) → a ≢ p → place_of (set rows p new) a b ≡ place_of rows a b
+  in_other_row a b e = ap (λ o. place_in o b) (get_other rows p a new e)
 
-  -- a row with one place more, or with another list at a place
-  module _ (old new : Vec (SmallList X)) (within : p < length rows) (here : slice_get rows p ≡ Some old) (other : ℕ → ℕ → List X) where
-    in_row : (b : ℕ) → place_of rows p b ≡ slice_get old.items b
-    in_row b = ap (λ o. place_in o b) here
+  module _ (longer : new.items ≡ old.items ++ 0 ∷ []) where
+    made_when : (a b : ℕ) → (a ≡ p) ⊎ (a ≢ p) → place_of (set rows p new) a b ≡ place_of rows a b
+    made_when a b (inl e) =
+        ap (λ i. place_of (set rows p new) i b) e ∙ in_new_row b ∙ ap (λ us. slice_index us b) longer ∙ index_more old.items b ∙ sym (in_row b)
+        ∙ ap (λ i. place_of rows i b) (sym e)
+    made_when a b (inr e) = in_other_row a b e
 
-    in_new_row : (b : ℕ) → place_of (set rows p new) p b ≡ slice_get new.items b
-    in_new_row b = ap (λ o. place_in o b) (get_set rows p new within)
+    pub place_made : (a b : ℕ) → place_of (set rows p new) a b ≡ place_of rows a b
+    place_made a b = made_when a b (cases_eq a p)
 
-    in_other_row : (a b : ℕ) → a ≢ p → place_of (set rows p new) a b ≡ place_of rows a b
-    in_other_row a b e = ap (λ o. place_in o b) (get_other rows p a new e)
+-- a row of zeros more
+module _ (rows : List (Vec ℕ)) (row : Vec ℕ) (zeros : (b : ℕ) → slice_index row.items b ≡ 0) where
+  row_when : (a b : ℕ) → (a ≡ length rows) ⊎ (a ≢ length rows) → place_of (rows ++ row ∷ []) a b ≡ place_of rows a b
+  row_when a b (inl e) =
+      ap (λ i. place_of (rows ++ row ∷ []) i b) e ∙ ap (λ o. place_in o b) (get_end rows row) ∙ zeros b
+      ∙ sym (ap (λ o. place_in o b) (slice_get_past rows a (omega (arith, e))))
+  row_when a b (inr e) = ap (λ o. place_in o b) (get_before_end rows a row e)
 
-    module _ (end : n ≡ length old.items) (longer : new.items ≡ old.items ++ Empty ∷ []) (none : other p n ≡ []) where
-      made_at : (b : ℕ) → (b ≡ n) ⊎ (b ≢ n) → placed (place_of (set rows p new) p b) (other p b) ≡ placed (place_of rows p b) (other p b)
-      made_at b (inl e) =
-          let now : place_of (set rows p new) p n ≡ Some Empty = in_new_row n ∙ ap (λ us. slice_get us n) longer ∙ ap (λ i. slice_get (old.items ++ Empty ∷ []) i) end ∙ get_end old.items Empty in
-          let before : place_of rows p n ≡ None = in_row n ∙ slice_get_past old.items n (omega (arith, end)) in
-          subst (λ i. placed (place_of (set rows p new) p i) (other p i) ≡ placed (place_of rows p i) (other p i)) (sym e)
-          (ap (λ o. placed o (other p n)) now ∙ sym none ∙ ap (λ o. placed o (other p n)) (sym before))
-      made_at b (inr e) = ap (λ o. placed o (other p b)) (in_new_row b ∙ ap (λ us. slice_get us b) longer ∙ get_before_end old.items b Empty (λ s. e (s ∙ sym end)) ∙ sym (in_row b))
+  pub row_of_zeros : (a b : ℕ) → place_of (rows ++ row ∷ []) a b ≡ place_of rows a b
+  row_of_zeros a b = row_when a b (cases_eq a (length rows))
 
-      made_in : (a b : ℕ) → (a ≡ p) ⊎ (a ≢ p) → placed (place_of (set rows p new) a b) (other a b) ≡ placed (place_of rows a b) (other a b)
-      made_in a b (inl e) = subst (λ i. placed (place_of (set rows p new) i b) (other i b) ≡ placed (place_of rows i b) (other i b)) (sym e) (made_at b (cases_eq b n))
-      made_in a b (inr e) = ap (λ o. placed o (other a b)) (in_other_row a b e)
+-- ---- lists
+or_push : {X : Type 0} (us vs : List X) (x : X) → (us ≡ [] → vs ≡ []) → or_else (us ++ x ∷ []) vs ≡ or_else us vs ++ x ∷ []
+or_push [] vs x e = ap (λ ws. ws ++ x ∷ []) (sym (e refl))
+or_push (u ∷ us) vs x e = refl
 
-      pub place_made : (a b : ℕ) → placed (place_of (set rows p new) a b) (other a b) ≡ placed (place_of rows a b) (other a b)
-      place_made a b = made_in a b (cases_eq a p)
+pub both_none : {X : Type 0} (us vs : List X) → or_else us vs ≡ [] → vs ≡ []
+both_none [] vs e = e
+both_none (u ∷ us) vs e = absurd cc
 
-    module _ (small more : SmallList X) (x : X) (inside : n < length old.items) (at : slice_get old.items n ≡ Some small) (changed : new.items ≡ set old.items n more) (grown : small_items more ≡ small_items small ++ x ∷ []) where
-      other_place : (a b : ℕ) → is_pair p n a b ≡ false → (a ≡ p) ⊎ (a ≢ p) → place_of (set rows p new) a b ≡ place_of rows a b
-      other_place a b e (inl s) =
-          let apart : b ≢ n = λ t. absurd (subst (λ v. v ≡ false → ⊥) (sym (pair_same p n)) (λ w. cc) (ap (λ i. is_pair p n i n) (sym s) ∙ ap (λ i. is_pair p n a i) (sym t) ∙ e)) in
-          subst (λ i. place_of (set rows p new) i b ≡ place_of rows i b) (sym s) (in_new_row b ∙ ap (λ us. slice_get us b) changed ∙ get_other old.items n b more apart ∙ sym (in_row b))
-      other_place a b e (inr s) = in_other_row a b s
+module _ {X : Type 0} (whole : List X) (p n : ℕ) where
+  abbrev named : (ℕ → ℕ → List X) → (ℕ → ℕ → ℕ) → ℕ → ℕ → List X
+  named other place a b = or_else (other a b) (one_at whole (place a b))
 
-      placed_when : (a b : ℕ) (t : Bool) → is_pair p n a b ≡ t → placed (place_of (set rows p new) a b) (other a b) ≡ with_item t (placed (place_of rows a b) (other a b)) x
-      placed_when a b true e =
+  -- an item comes to the map
+  module _ (place : ℕ → ℕ → ℕ) (x : X) (other more : ℕ → ℕ → List X) (grown : (a b : ℕ) → more a b ≡ lists_with other p n x a b) where
+    grown_here : more p n ≡ other p n ++ x ∷ []
+    grown_here = grown p n ∙ ap (λ t. with_item t (other p n) x) (pair_same p n)
+
+    grown_apart : (a b : ℕ) → is_pair p n a b ≡ false → more a b ≡ other a b
+    grown_apart a b e = grown a b ∙ ap (λ t. with_item t (other a b) x) e
+
+    module _ (none : other p n ≡ [] → one_at whole (place p n) ≡ []) where
+      pushed_here : named more place p n ≡ named other place p n ++ x ∷ []
+      pushed_here = ap (λ us. or_else us (one_at whole (place p n))) grown_here ∙ or_push (other p n) (one_at whole (place p n)) x none
+
+      pushed_when : (a b : ℕ) (t : Bool) → is_pair p n a b ≡ t → named more place a b ≡ with_item t (named other place a b) x
+      pushed_when a b true e =
           let s = same_pair p n a b e in
-          let now : place_of (set rows p new) p n ≡ Some more = in_new_row n ∙ ap (λ us. slice_get us n) changed ∙ get_set old.items n more inside in
-          let before : place_of rows p n ≡ Some small = in_row n ∙ at in
-          subst (λ i. placed (place_of (set rows p new) i b) (other i b) ≡ placed (place_of rows i b) (other i b) ++ x ∷ []) s.0
-          (subst (λ j. placed (place_of (set rows p new) p j) (other p j) ≡ placed (place_of rows p j) (other p j) ++ x ∷ []) s.1
-          (ap (λ o. placed o (other p n)) now ∙ grown ∙ ap (λ o. placed o (other p n) ++ x ∷ []) (sym before)))
-      placed_when a b false e = ap (λ o. placed o (other a b)) (other_place a b e (cases_eq a p))
+          subst (λ i. named more place i b ≡ named other place i b ++ x ∷ []) s.0 (subst (λ j. named more place p j ≡ named other place p j ++ x ∷ []) s.1 pushed_here)
+      pushed_when a b false e = ap (λ us. or_else us (one_at whole (place a b))) (grown_apart a b e)
 
-      pub place_pushed : (a b : ℕ) → placed (place_of (set rows p new) a b) (other a b) ≡ lists_with (λ a b. placed (place_of rows a b) (other a b)) p n x a b
-      place_pushed a b = placed_when a b (is_pair p n a b) refl
+      pub other_pushed : (a b : ℕ) → named more place a b ≡ lists_with (named other place) p n x a b
+      other_pushed a b = pushed_when a b (is_pair p n a b) refl

@@ -4,7 +4,6 @@ use Rattle.std.specs.Prelude.{◌≢◌}
 use Rattle.std.proofs.lemmas.Bool.Decides.{nat_tests}
 use Rattle.ultra_serial.specs.declared.records_by_name.RecordsByName.{RecordsByName}
 use Rattle.ultra_serial.specs.ByPair.{is_pair, with_item, lists_with}
-use Rattle.ultra_serial.specs.ByName.{list_named}
 use Rattle.ultra_serial_law.specs.declared.records.LoggedIssue.{LoggedIssue}
 use Rattle.ultra_serial_law.specs.declared.records.LoggedAnswer.{LoggedAnswer}
 use Rattle.ultra_serial_law.specs.Log.{Log}
@@ -12,7 +11,7 @@ use Rattle.ultra_serial_law.specs.declared.records.Entry.{Entry}
 use Rattle.ultra_serial_law.specs.Legal.{Has, IsIssueNamed, IsAnswerTo, IsIssueOf}
 use Rattle.ultra_serial.specs.Breach.{HasNameOf}
 use Rattle.ultra_serial.specs.Examined.{IsListed}
-use Rattle.ultra_serial.specs.RecordsByName.{AreByName, Holds}
+use Rattle.ultra_serial.specs.RecordsByName.{AreByName, Holds, issues_named, answers_named, entries_named}
 use Rattle.ultra_serial_law.proofs.Lists.{get_left}
 use Rattle.ultra_serial.proofs.Explaining.{has_push, get_last}
 
@@ -65,12 +64,12 @@ module _ {X : Type 0} (pe number : X → ℕ) where
 -- ---- of an entry
 module _ (b : RecordsByName) (log : Log) (before : List Entry) (h : Holds b log before) where
   module _ (e : Entry) where
-    module _ (is : List LoggedIssue) (s : is ≡ list_named b.issues e.pe e.number) where
+    module _ (is : List LoggedIssue) (s : is ≡ issues_named b e.pe e.number) where
       whole_issue : (i : LoggedIssue) → Has is i → Has log.issues i
-      whole_issue i k = in_whole (λ (i : LoggedIssue). i.pe) (λ (i : LoggedIssue). i.number) (list_named b.issues) log.issues h.issues e.pe e.number is s i k
+      whole_issue i k = in_whole (λ (i : LoggedIssue). i.pe) (λ (i : LoggedIssue). i.number) (issues_named b) log.issues h.issues e.pe e.number is s i k
 
       named_issue : (i : LoggedIssue) → IsIssueNamed e i → Has log.issues i → Has is i
-      named_issue i t k = in_named (λ (i : LoggedIssue). i.pe) (λ (i : LoggedIssue). i.number) (list_named b.issues) log.issues h.issues e.pe e.number is s i t.0 t.1 k
+      named_issue i t k = in_named (λ (i : LoggedIssue). i.pe) (λ (i : LoggedIssue). i.number) (issues_named b) log.issues h.issues e.pe e.number is s i t.0 t.1 k
 
       pub issued : ((i : LoggedIssue) × Has is i × IsIssueOf e i) → (i : LoggedIssue) × Has log.issues i × IsIssueOf e i
       issued y = (y.0, whole_issue y.0 y.1, y.2)
@@ -85,12 +84,12 @@ module _ (b : RecordsByName) (log : Log) (before : List Entry) (h : Holds b log 
       one_reached from now (inl q) = inl q
       one_reached from now (inr y) = inr (y.0, whole_issue y.0 y.1, y.2, y.3)
 
-    module _ (answers : List LoggedAnswer) (s : answers ≡ list_named b.answers e.pe e.number) where
+    module _ (answers : List LoggedAnswer) (s : answers ≡ answers_named b e.pe e.number) where
       whole_answer : (a : LoggedAnswer) → Has answers a → Has log.answers a
-      whole_answer a k = in_whole (λ (a : LoggedAnswer). a.pe) (λ (a : LoggedAnswer). a.number) (list_named b.answers) log.answers h.answers e.pe e.number answers s a k
+      whole_answer a k = in_whole (λ (a : LoggedAnswer). a.pe) (λ (a : LoggedAnswer). a.number) (answers_named b) log.answers h.answers e.pe e.number answers s a k
 
       named_answer : (a : LoggedAnswer) → IsAnswerTo e a → Has log.answers a → Has answers a
-      named_answer a t k = in_named (λ (a : LoggedAnswer). a.pe) (λ (a : LoggedAnswer). a.number) (list_named b.answers) log.answers h.answers e.pe e.number answers s a t.0 t.1 k
+      named_answer a t k = in_named (λ (a : LoggedAnswer). a.pe) (λ (a : LoggedAnswer). a.number) (answers_named b) log.answers h.answers e.pe e.number answers s a t.0 t.1 k
 
       pub answered_otherwise : ((a : LoggedAnswer) × Has answers a × IsAnswerTo e a × (a.reply ≢ e.reply)) → (a : LoggedAnswer) × Has log.answers a × IsAnswerTo e a × (a.reply ≢ e.reply)
       answered_otherwise y = (y.0, whole_answer y.0 y.1, y.2, y.3)
@@ -105,21 +104,21 @@ module _ (b : RecordsByName) (log : Log) (before : List Entry) (h : Holds b log 
       in_time from never a k t = never a (named_answer a t k) t
 
   -- ---- the entries of a name
-  module _ (p n : ℕ) (es : List Entry) (s : es ≡ list_named b.entries p n) where
+  module _ (p n : ℕ) (es : List Entry) (s : es ≡ entries_named b p n) where
     whole_entry : (f : Entry) → Has es f → Has before f
-    whole_entry f k = in_whole (λ (f : Entry). f.pe) (λ (f : Entry). f.number) (list_named b.entries) before h.entries p n es s f k
+    whole_entry f k = in_whole (λ (f : Entry). f.pe) (λ (f : Entry). f.number) (entries_named b) before h.entries p n es s f k
 
     named_entry : (f : Entry) → f.pe ≡ p → f.number ≡ n → Has before f → Has es f
-    named_entry f x y k = in_named (λ (f : Entry). f.pe) (λ (f : Entry). f.number) (list_named b.entries) before h.entries p n es s f x y k
+    named_entry f x y k = in_named (λ (f : Entry). f.pe) (λ (f : Entry). f.number) (entries_named b) before h.entries p n es s f x y k
 
-  module _ (e : Entry) (es : List Entry) (s : es ≡ list_named b.entries e.pe e.number) where
+  module _ (e : Entry) (es : List Entry) (s : es ≡ entries_named b e.pe e.number) where
     pub repeated : ((f : Entry) × Has es f × HasNameOf f e) → (f : Entry) × Has before f × HasNameOf f e
     repeated y = (y.0, whole_entry e.pe e.number es s y.0 y.1, y.2)
 
     pub is_new : ((f : Entry) → Has es f → HasNameOf f e → ⊥) → (f : Entry) → Has before f → HasNameOf f e → ⊥
     is_new never f k t = never f (named_entry e.pe e.number es s f t.0 t.1 k) t
 
-  module _ (a : LoggedAnswer) (es : List Entry) (s : es ≡ list_named b.entries a.pe a.number) where
+  module _ (a : LoggedAnswer) (es : List Entry) (s : es ≡ entries_named b a.pe a.number) where
     pub listed : IsListed es a → IsListed before a
     listed y = (y.0, whole_entry a.pe a.number es s y.0 y.1, y.2)
 

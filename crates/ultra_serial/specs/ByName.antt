@@ -1,30 +1,31 @@
--- lists by the name of a request: those of the first numbers of each processing element in rows, the
--- others by pair
-use Rattle.std.specs.Prelude.{ℕ, List, [], ◌∷◌, Option, Some, None, slice_get}
+-- the items of a list by the name of a request: most in rows by index, the others by pair
+use Rattle.std.specs.Prelude.{ℕ, zero, suc, List, [], ◌∷◌, true, false, Option, Some, None, option_to_list, slice_get, slice_index}
 use Rattle.std.specs.Global.{Vec}
-use Rattle.ultra_serial.specs.declared.small_list.SmallList.{SmallList}
-use Rattle.ultra_serial.specs.declared.small_list.SmallList.TheVariants.{Empty, One, Many}
 use Rattle.ultra_serial.specs.declared.by_name.ListsByName.{ListsByName}
-use Rattle.ultra_serial.specs.ByPair.{list_of}
+use Rattle.ultra_serial.specs.ByPair.{is_pair, list_of}
 
-abbrev pub small_items : {X : Type 0} → SmallList X → List X
-small_items Empty = []
-small_items (One x) = x ∷ []
-small_items (Many v) = v.items
+-- the item of a place, which is one more than an index, or 0
+abbrev pub one_at : {X : Type 0} → List X → ℕ → List X
+one_at xs zero = []
+one_at xs (suc k) = option_to_list (slice_get xs k)
 
--- the place of a number in a row, and of a name in all rows
-abbrev pub place_in : {X : Type 0} → Option (Vec (SmallList X)) → ℕ → Option (SmallList X)
-place_in None n = None
-place_in (Some row) n = slice_get row.items n
+-- the place of a number in a row, and of a name in all rows: 0 where there is none
+abbrev pub place_in : Option (Vec ℕ) → ℕ → ℕ
+place_in None n = 0
+place_in (Some row) n = slice_index row.items n
 
-abbrev pub place_of : {X : Type 0} → List (Vec (SmallList X)) → ℕ → ℕ → Option (SmallList X)
+abbrev pub place_of : List (Vec ℕ) → ℕ → ℕ → ℕ
 place_of rows p n = place_in (slice_get rows p) n
 
--- the list of a place, or the other one where there is no place
-abbrev pub placed : {X : Type 0} → Option (SmallList X) → List X → List X
-placed None other = other
-placed (Some list) other = small_items list
+abbrev pub places_with : (ℕ → ℕ → ℕ) → ℕ → ℕ → ℕ → ℕ → ℕ → ℕ
+places_with f p q k a b = elim (is_pair p q a b) [ true ↦ k | false ↦ f a b ]
 
--- the list of processing element p and number n
-abbrev pub list_named : {X : Type 0} → ListsByName X → ℕ → ℕ → List X
-list_named t p n = placed (place_of t.rows.items p n) (list_of t.others.lists p n)
+-- a list, or the other one where it is empty
+abbrev pub or_else : {X : Type 0} → List X → List X → List X
+or_else [] other = other
+or_else (x ∷ xs) other = x ∷ xs
+
+-- the items of processing element p and number n
+abbrev pub list_named : {X : Type 0} → ListsByName X → List X → ℕ → ℕ → List X
+list_named t whole p n =
+    or_else (list_of t.others.lists p n) (one_at whole (place_of t.rows.items p n))

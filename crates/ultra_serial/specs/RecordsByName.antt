@@ -25,7 +25,17 @@ AreAnswersByName lists whole =
 abbrev pub AreEntriesByName : (ℕ → ℕ → List Entry) → List Entry → Type 0
 AreEntriesByName lists whole = AreByName (λ (e : Entry). e.pe) (λ (e : Entry). e.number) lists whole
 
-pub record Holds (b : RecordsByName) (log : Log) (list : List Entry) : Type 0 where
-  pub issues : AreIssuesByName (list_named b.issues) log.issues
-  pub answers : AreAnswersByName (list_named b.answers) log.answers
-  pub entries : AreEntriesByName (list_named b.entries) list
+-- the records of a name
+abbrev pub issues_named : RecordsByName → ℕ → ℕ → List LoggedIssue
+issues_named b = list_named b.issues b.log.now.issues.items
+
+abbrev pub answers_named : RecordsByName → ℕ → ℕ → List LoggedAnswer
+answers_named b = list_named b.answers b.log.now.answers.items
+
+abbrev pub entries_named : RecordsByName → ℕ → ℕ → List Entry
+entries_named b = list_named b.entries b.list.now
+
+pub record Holds (b : RecordsByName) (log : Log) (before : List Entry) : Type 0 where
+  pub issues : AreIssuesByName (issues_named b) log.issues
+  pub answers : AreAnswersByName (answers_named b) log.answers
+  pub entries : AreEntriesByName (entries_named b) before

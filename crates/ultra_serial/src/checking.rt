@@ -12,8 +12,8 @@ ghost use Rattle.ultra_serial.specs.RecordsByName.{Holds};
 
 use crate::dense_memory::DenseMemory;
 use crate::examining::{after_issues, fault_of, is_answer_to};
-use crate::keys::RequestName;
 use crate::records_by_name::RecordsByName;
+use crate::request_name::RequestName;
 use crate::{Entry, Log, LoggedAnswer};
 use std::alloc::{AllocError, Global};
 use ultra_msg::{Cell, Word};
@@ -95,7 +95,7 @@ fn examine(
     ensures answered { OnOk result ((a : AnswerOf) → Has (log_of log.now).answers a → IsListed list.now a) }
     ensures breach { (final : Cells) → IfErr result (ExplainsCheckFault (dense_cells memory.old) (log_of log.now) final list.now) }
 {
-    let mut names = RecordsByName::new(alloc, log)?;
+    let mut names = RecordsByName::new(alloc, log, list)?;
     replay(list, &mut names, memory)?;
     if let Some(index) = first_missing(log.answers.as_slice(), &names) {
         return Err(CheckFault::Breach(BreachKind::Missing, index));
@@ -106,9 +106,10 @@ fn examine(
 /// Finds the first fault of an entry. The entries before it have acted on the memory, and are in `names`, which has the log and no entries at first.
 fn replay(
     list: &[Entry],
-    names: &mut RecordsByName,
+    names: &mut RecordsByName<'_>,
     memory: &mut DenseMemory,
 ) -> Result<(), CheckFault>
+    requires { names.old.list.now ≡ list.now }
     ensures cells { OnOk result (dense_cells memory.new ≡ cells_past (dense_cells memory.old) list.now) }
     ensures names { OnOk result ((log : LogOf) → Holds names.old log [] → Holds names.new log list.now) }
     ensures explained { OnOk result ((log : LogOf) → Holds names.old log [] → AreExplained (dense_cells memory.old) log list.now) }
@@ -123,15 +124,15 @@ fn replay(
             pe: entry.pe,
             number: entry.number,
         };
-        let issues = names.issues.get(name);
+        let issues = names.issues(name);
         from = after_issues(issues, entry, from);
-        names.add(*entry)?;
+        names.add(index)?;
     }
     Ok(())
 }
 
 /// The first answer whose name no entry has.
-fn first_missing(answers: &[LoggedAnswer], names: &RecordsByName) -> Option<usize>
+fn first_missing(answers: &[LoggedAnswer], names: &RecordsByName<'_>) -> Option<usize>
     ensures none { (log : LogOf) (list : List EntryOf) → Holds names.now log list → result ≡ None → (a : AnswerOf) → Has answers.now a → IsListed list a }
     ensures some { (log : LogOf) (list : List EntryOf) → Holds names.now log list → IfSome result (λ n. IsFirstMissingAnswer answers.now list n) }
 {
@@ -140,7 +141,7 @@ fn first_missing(answers: &[LoggedAnswer], names: &RecordsByName) -> Option<usiz
             pe: answer.pe,
             number: answer.number,
         };
-        if !is_listed(answer, names.entries.get(name)) {
+        if !is_listed(answer, names.entries(name)) {
             return Some(index);
         }
     }

@@ -79,7 +79,7 @@ impl DenseMemory {
 }
 
 /// A list of `count` zeros. (A parameter, because a tactic would compute a list of `TABLE_CELLS` zeros.)
-fn zeros(alloc: Global, count: usize) -> Result<Vec<Word>, AllocError>
+pub(crate) fn zeros(alloc: Global, count: usize) -> Result<Vec<Word>, AllocError>
     ensures { IfOk result (λ zeros. (k : ℕ) → slice_index zeros.items k ≡ 0) }
 {
     vec![in alloc; 0; count]

@@ -14,8 +14,8 @@ ghost use Rattle.ultra_serial.specs.RecordsByName.{Holds};
 
 use crate::checking::BreachKind;
 use crate::dense_memory::DenseMemory;
-use crate::keys::RequestName;
 use crate::records_by_name::RecordsByName;
+use crate::request_name::RequestName;
 use crate::{Entry, LoggedAnswer, LoggedIssue};
 use std::alloc::AllocError;
 
@@ -23,7 +23,7 @@ use std::alloc::AllocError;
 ///
 /// `names` has the log and the entries before this one, by name. They have acted on `memory`, and `from` is the first cycle after all their issues.
 pub(crate) fn fault_of(
-    names: &RecordsByName,
+    names: &RecordsByName<'_>,
     from: u64,
     memory: &mut DenseMemory,
     entry: &Entry,
@@ -35,9 +35,9 @@ pub(crate) fn fault_of(
         pe: entry.pe,
         number: entry.number,
     };
-    let issues = names.issues.get(name);
-    let others = names.entries.get(name);
-    let answers = names.answers.get(name);
+    let issues = names.issues(name);
+    let others = names.entries(name);
+    let answers = names.answers(name);
     if !is_issued(issues, entry) {
         return Ok(Some(BreachKind::NotIssued));
     }

@@ -8,8 +8,8 @@ ghost use Rattle.ultra_serial_law.specs.Legal.{Has, IsIssueNamed};
 ghost use Rattle.ultra_serial.specs.LatestIssue.{AreIssuesOf, IsLatestIssueOf, first_cycle_after};
 
 use crate::examining::after_issues;
-use crate::keys::RequestName;
 use crate::records_by_name::issues_by_name;
+use crate::request_name::RequestName;
 use crate::{Entry, Log, LoggedIssue};
 use std::alloc::{AllocError, Global};
 
@@ -21,14 +21,15 @@ pub fn latest_issue(
 ) -> Result<Option<(Entry, u32)>, AllocError>
     ensures { IfOk result (IsLatestIssueOf (log_of log.now) list.now) }
 {
-    let issues = issues_by_name(alloc, log.issues.as_slice())?;
+    let issues = log.issues.as_slice();
+    let named = issues_by_name(alloc, issues)?;
     let mut latest = None;
     for entry in list {
         let name = RequestName {
             pe: entry.pe,
             number: entry.number,
         };
-        latest = later_issue(issues.get(name), entry, latest);
+        latest = later_issue(named.get(issues, name), entry, latest);
     }
     Ok(latest)
 }

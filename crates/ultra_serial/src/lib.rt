@@ -6,7 +6,6 @@ mod by_pair;
 mod checking;
 mod dense_memory;
 mod examining;
-mod keys;
 mod latest;
 mod latest_numbers;
 mod log_recorder;
@@ -15,8 +14,8 @@ mod ordered_run;
 mod pending_requests;
 mod pending_row;
 mod records_by_name;
+mod request_name;
 mod serial_state;
-mod small_list;
 
 pub use checking::{BreachKind, CheckFault, check};
 pub use latest::latest_issue;

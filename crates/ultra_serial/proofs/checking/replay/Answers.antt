@@ -1,4 +1,5 @@
-use Rattle.std.proofs.Common.{take, get_or, arith, refl, ap, sym, ◌∙◌, subst, Some, None}
+use Rattle.std.specs.Prelude.{slice_get}
+use Rattle.std.proofs.Common.{◌<◌, length, take, get_or, arith, refl, ap, sym, ◌∙◌, subst, Some, None}
 use Rattle.std.proofs.lemmas.List.{take_more, take_all}
 use Rattle.std.proofs.lemmas.Option.{slice_get-get_or}
 use Rattle.std.proofs.lemmas.Result.{err_from_is_err_and}
@@ -23,6 +24,7 @@ loop-index-init c = record {
   cells = refl;
   first = λ log h. first_none log;
   names = λ log h. h;
+  list = c.requires;
   small = omega arith;
 }
 
@@ -60,7 +62,7 @@ loop-index-preserved c =
     let from = c.loop-index.from in
     let now = c.after_issues-from.result in
     let b = c.loop-index.names in
-    let is = c.get-issues.result.now in
+    let is = c.issues-issues.result.now in
     let grown = take_more xs n some_entry (omega arith) in
     let i = c.loop-index.invariant in
     record {
@@ -74,11 +76,15 @@ loop-index-preserved c =
           ∙ (sym (past_more initial no_log before from e) ∙ ap (λ us. cells_past initial us) (sym grown)));
       first = λ log h. subst (λ us. IsFirstAfter log us now) (sym grown)
           (first_more initial log before from e (i.first log h) now c.after_issues-from.ensures.no_less
-          (all_above b log before (i.names log h) e is c.get-issues.ensures now c.after_issues-from.ensures.above)
-          (one_reached b log before (i.names log h) e is c.get-issues.ensures from now c.after_issues-from.ensures.reached));
-      names = λ log h. subst (λ us. Holds c.add.new.self log us) (sym grown) (c.in_ok-add.ensures log before (i.names log h));
+          (all_above b log before (i.names log h) e is c.issues-issues.ensures now c.after_issues-from.ensures.above)
+          (one_reached b log before (i.names log h) e is c.issues-issues.ensures from now c.after_issues-from.ensures.reached));
+      names = λ log h. subst (λ us. Holds c.add.new.self log us) (sym grown) (c.in_ok-add.ensures.records log before e (ap (λ us. slice_get us n) i.list ∙ slice_get-get_or xs n some_entry (omega arith)) (i.names log h));
+      list = c.add.ensures.list ∙ i.list;
       small = c.after_issues-from.ensures.small;
     }
+
+pub add-requires : goal.add-requires
+add-requires c = let n = c.loop-index.index in subst (λ us. n < length us) (sym c.loop-index.invariant.list) (omega arith)
 
 pub returns : goal.returns
 returns c =

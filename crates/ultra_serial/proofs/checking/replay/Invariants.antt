@@ -14,5 +14,6 @@ invariant-loop-index l = let initial = dense_cells l.initial.memory in
       cells : dense_cells l.memory ≡ cells_past initial before;
       first : (log : Log) → Holds l.initial.names log [] → IsFirstAfter log before l.from;
       names : (log : Log) → Holds l.initial.names log [] → Holds l.names log before;
+      list : l.names.list.now ≡ l.list;
       small : l.from ≤ 4294967296;
     }

@@ -12,8 +12,8 @@ loop-entry-preserved c =
     let xs = c.args.list.now in
     let n = c.loop-entry.entry-index in
     let log = log_of c.args.log.now in
-    let named = rw c.as_slice.ensures.value at c.in_ok-issues.ensures in
-    let own = kept_issues (list_named c.in_ok-issues.issues) log named (get_or xs n some_entry) c.get.result.now c.get.ensures in
+    let named = rw c.as_slice-issues.ensures.value at c.in_ok-named.ensures in
+    let own = kept_issues (list_named c.in_ok-named.named log.issues) log named (get_or xs n some_entry) c.get.result.now (rw c.as_slice-issues.ensures.value at c.get.ensures) in
     subst (λ us. IsLatestIssueOf log us c.later_issue-latest.result) (sym (take_more xs n some_entry (omega arith)))
     (c.later_issue-latest.ensures log (take n xs) own c.loop-entry.invariant)
 

@@ -1,5 +1,6 @@
 use Rattle.std.proofs.Common.{arith, take, get_or, subst, sym}
 use Rattle.std.proofs.lemmas.List.{take_more}
+use Rattle.std.proofs.lemmas.Option.{slice_get-get_or}
 use Rattle.ultra_serial.specs.ByName.{list_named}
 use Rattle.ultra_serial_law.specs.declared.records.LoggedAnswer.{LoggedAnswer}
 use Rattle.ultra_serial.specs.RecordsByName.{AreAnswersByName}
@@ -7,12 +8,14 @@ use Rattle.ultra_serial.proofs.RecordsByName.{none_by_name, more_by_name}
 use Rattle.ultra_serial.proofs.Searching.{some_answer}
 use Rattle.ultra_serial.proofs.records_by_name.answers_by_name.Goals as goal
 
-pub loop-answer-init : goal.loop-answer-init
-loop-answer-init c = none_by_name (λ (a : LoggedAnswer). a.pe) (λ (a : LoggedAnswer). a.number) (list_named c.in_ok-named.named) c.in_ok-named.ensures
+pub loop-index-init : goal.loop-index-init
+loop-index-init c = none_by_name (λ (a : LoggedAnswer). a.pe) (λ (a : LoggedAnswer). a.number) (list_named c.in_ok-named.named c.args.answers.now) (c.in_ok-named.ensures c.args.answers.now)
 
-pub loop-answer-preserved : goal.loop-answer-preserved
-loop-answer-preserved c =
+pub loop-index-preserved : goal.loop-index-preserved
+loop-index-preserved c =
     let xs = c.args.answers.now in
-    let k = c.loop-answer.answer-index in
-    subst (λ us. AreAnswersByName (list_named c.push.new.self) us) (sym (take_more xs k some_answer (omega arith)))
-    (more_by_name (λ (a : LoggedAnswer). a.pe) (λ (a : LoggedAnswer). a.number) (list_named c.loop-answer.named) (take k xs) c.loop-answer.invariant (list_named c.push.new.self) (get_or xs k some_answer) c.in_ok-push.ensures)
+    let n = c.loop-index.index in
+    let x = get_or xs n some_answer in
+    let at = slice_get-get_or xs n some_answer (omega arith) in
+    subst (λ us. AreAnswersByName (list_named c.push.new.self xs) us) (sym (take_more xs n some_answer (omega arith)))
+    (more_by_name (λ (a : LoggedAnswer). a.pe) (λ (a : LoggedAnswer). a.number) (list_named c.loop-index.named xs) (take n xs) c.loop-index.invariant (list_named c.push.new.self xs) x (λ p q. c.in_ok-push.ensures x at p q))

@@ -3,5 +3,5 @@ use Rattle.ultra_serial.specs.ByName.{list_named}
 use Rattle.ultra_serial.specs.RecordsByName.{AreAnswersByName}
 use Rattle.ultra_serial.proofs.records_by_name.answers_by_name.Given as goal
 
-abbrev pub invariant-loop-answer : goal.invariant-loop-answer
-invariant-loop-answer l = AreAnswersByName (list_named l.named) (take l.answer-index l.answers)
+abbrev pub invariant-loop-index : goal.invariant-loop-index
+invariant-loop-index l = AreAnswersByName (list_named l.named l.answers) (take l.index l.answers)

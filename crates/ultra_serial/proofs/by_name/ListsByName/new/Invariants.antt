@@ -1,6 +1,6 @@
-use Rattle.std.proofs.Common.{◌≡◌, ℕ, []}
+use Rattle.std.proofs.Common.{◌≡◌, ℕ, List, []}
 use Rattle.ultra_serial.specs.ByName.{list_named}
 use Rattle.ultra_serial.proofs.by_name.ListsByName.new.Given as goal
 
 abbrev pub invariant-loop : goal.invariant-loop
-invariant-loop g l = (a b : ℕ) → list_named l.lists a b ≡ []
+invariant-loop g l = (whole : List g.row.T.Denot) (a b : ℕ) → list_named l.named whole a b ≡ []
