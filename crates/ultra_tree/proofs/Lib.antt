@@ -7,3 +7,4 @@ pub mod Texts
 pub mod Under
 pub mod Rows
 pub mod Agreement
+pub mod ShortTexts

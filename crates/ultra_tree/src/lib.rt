@@ -6,6 +6,7 @@ mod heights;
 mod listing;
 mod nodes;
 mod order;
+mod short_text;
 mod slots;
 mod trees;
 mod writing;

@@ -1,16 +1,21 @@
 //! The text of a tree.
 
-ghost use Rattle.std.specs.Prelude.{◌≡◌, ℕ, ◌+◌, ◌<◌, ◌^◌, ◌++◌, None, codes, decimal};
+ghost use Rattle.std.specs.Prelude.{◌≡◌, ℕ, ◌+◌, ◌<◌, ◌≤◌, ◌^◌, ◌++◌, None, codes, decimal};
 ghost use Rattle.ultra_msg.specs.Bytes.{Writes};
 ghost use Rattle.ultra_tree.specs.Counts.{leaf_count, HasRightCounts};
 ghost use Rattle.ultra_tree.specs.Places.{piece};
 ghost use Rattle.ultra_tree.specs.Seen.{seen};
+ghost use Rattle.ultra_tree.specs.declared.writing.TheConstants.{FEW_CLOSINGS};
 ghost use Rattle.ultra_tree.specs.Text.{leaf_text, head_text, opening, closings, order_mark_text, tree_text};
 
+use crate::short_text::{ShortText, add, add_closings, add_mark, add_number};
 use crate::trees::{CountedNode, Tree};
 use itoa::Buffer;
 use std::alloc::Allocator;
 use ultra_msg::{Pe, Sink, SinkFault, write_all, write_pieces};
+
+/// How many pairs close behind a leaf at most where its text is gathered.
+const FEW_CLOSINGS: u64 = 32;
 
 /// Writes a tree, as `[s0x0 1.0 < 0.0]`. After a fault the sink has taken a prefix of its text.
 pub fn write_tree<A: Allocator, S: Sink>(tree: &Tree<A>, sink: &mut S) -> Result<(), SinkFault>
@@ -80,6 +85,46 @@ fn write_leaf<S: Sink>(
     ensures { Writes result (leaf_text pe number ++ closings closing ++ order_mark_text mark)
         (S.taken sink.old) (S.taken sink.new) (S.failures sink.old) (S.failures sink.new) }
 {
+    if closing <= FEW_CLOSINGS {
+        write_leaf_at_once(pe, number, closing, mark, sink)
+    } else {
+        write_long_leaf(pe, number, closing, mark, sink)
+    }
+}
+
+/// Writes the same by one call of the sink.
+fn write_leaf_at_once<S: Sink>(
+    pe: Pe,
+    number: u32,
+    closing: u64,
+    mark: Option<bool>,
+    sink: &mut S,
+) -> Result<(), SinkFault>
+    requires { closing ≤ FEW_CLOSINGS }
+    ensures { Writes result (leaf_text pe number ++ closings closing ++ order_mark_text mark)
+        (S.taken sink.old) (S.taken sink.new) (S.failures sink.old) (S.failures sink.new) }
+{
+    let mut text = ShortText::new();
+    add_number(&mut text, pe);
+    add(&mut text, b".");
+    add_number(&mut text, number);
+    add_closings(&mut text, closing);
+    add_mark(&mut text, mark);
+    write_all(sink, text.as_slice())
+}
+
+/// Writes the same by as many calls as it takes.
+#[inline(never)]
+fn write_long_leaf<S: Sink>(
+    pe: Pe,
+    number: u32,
+    closing: u64,
+    mark: Option<bool>,
+    sink: &mut S,
+) -> Result<(), SinkFault>
+    ensures { Writes result (leaf_text pe number ++ closings closing ++ order_mark_text mark)
+        (S.taken sink.old) (S.taken sink.new) (S.failures sink.old) (S.failures sink.new) }
+{
     write_name(pe, number, sink)?;
     write_closings(closing, sink)?;
     write_mark(mark, sink)
@@ -124,18 +169,13 @@ fn write_head<S: Sink>(stage: u32, position: u32, sink: &mut S) -> Result<(), Si
     ensures { Writes result (head_text stage position)
         (S.taken sink.old) (S.taken sink.new) (S.failures sink.old) (S.failures sink.new) }
 {
-    let mut of_stage = Buffer::new();
-    let mut of_position = Buffer::new();
-    write_pieces(
-        sink,
-        &[
-            b"[s",
-            of_stage.format(stage).as_bytes(),
-            b"x",
-            of_position.format(position).as_bytes(),
-            b" ",
-        ],
-    )
+    let mut text = ShortText::new();
+    add(&mut text, b"[s");
+    add_number(&mut text, stage);
+    add(&mut text, b"x");
+    add_number(&mut text, position);
+    add(&mut text, b" ");
+    write_all(sink, text.as_slice())
 }
 
 /// Closes this many pairs.

@@ -1,7 +1,7 @@
 use Rattle.std.proofs.Common.{Ok, Err, refl}
 use Rattle.ultra_msg.proofs.Writing.{writes_then, writes_failed}
 use Rattle.ultra_tree.specs.Text.{closings, order_mark_text}
-use Rattle.ultra_tree.proofs.writing.write_leaf.Goals as goal
+use Rattle.ultra_tree.proofs.writing.write_long_leaf.Goals as goal
 
 pub returns-in_err-write_name : goal.returns-in_err-write_name
 returns-in_err-write_name g c =
