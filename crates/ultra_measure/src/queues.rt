@@ -94,7 +94,8 @@ fn count_full(places: u32, one: u32, two: u32) -> u32
     }
 }
 
-/// 1 where all places are taken, and else 0. What has no place is never full.
+/// 1 where all places are taken, and else 0. What has no place is never full. The code is out of
+/// line, so that the compiler doesn't do it where it isn't needed.
 #[cold]
 #[inline(never)]
 fn count_if_full(places: u32, held: u32) -> u32
