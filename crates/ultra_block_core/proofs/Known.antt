@@ -3,8 +3,9 @@ use Rattle.std.proofs.Common.{◌≡◌, ◌≢◌, ℕ, ◌-◌, ◌^◌, ◌<�
 use Rattle.ultra_block_core.proofs.Common.{cases_eq, ForSome, length-set, Switch, ModuleState, Instr, ProcessingElement, switch_count, has_unit, IsFirstFrom, is_at_rest, Ports, IsModule, IsElement, of_unit, unit_is, unit_of_element, unit_of_module, unit_of_switch, AreNoted, UnitFacts, facts_at, no_facts, switch_facts, module_facts, element_facts, AreOthersAtRest, IsConsistentBlock, seen_of, own_switch, own_module, own_element, AreTargets, IsNextAway, AreOwnRooms, Rooms}
 use Rattle.std.proofs.lemmas.List.{Elements.All-from_get_or, Folds.list_any_at, Folds.list_any_none}
 use Rattle.std.specs.List.{list_all, list_any}
-use Rattle.ultra_topology.{proofs.Set.none_there, specs.Links.LinksState, specs.Numbers.element_number, specs.Set.HasNoneFrom}
-use Rattle.ultra_block_core.specs.{declared.block.Block.TheInside.Inside as Block, declared.sets.Sets.Sets, Prelude.quiet_element, Quiet.is_running, Quiet.or_elsewhere, Quiet.quiet_block, Sets.if_here}
+use Rattle.ultra_block_core.proofs.{Common.sends_replies, Common.sends_requests, Visited.sends_no_reply, Visited.sends_no_request}
+use Rattle.ultra_topology.{proofs.Readers.few_units, proofs.Set.none_there, proofs.Visits.none_to_do, specs.Visits.after_units, specs.Links.LinksState, specs.Numbers.IsSmall, specs.Numbers.element_number, specs.Set.HasNoneFrom}
+use Rattle.ultra_block_core.specs.{declared.block.Block.TheInside.Inside as Block, declared.sets.Sets.Sets, Prelude.quiet_element, Quiet.is_running, Quiet.or_elsewhere, Quiet.quiet_block, Rooms.AreOpenFrom, Sets.if_here}
 
 -- ---- facts of units, where `fs`, `fb` and `fe` give those of a switch, of a module and of a processing element
 module _ (d : ℕ) {S B E F : Type 0} (fs : Option S → F) (fb : Option B → F) (fe : Option E → F) (none : F) where
@@ -114,6 +115,36 @@ own_rooms s = record { no_reply_room = s.no_reply_room; no_request_room = s.no_r
 
 pub are_own : {b : Block} → IsConsistentBlock b → AreOwnRooms (seen_of b) (own_rooms b.sets)
 are_own known = grind (arith, known.facts, none_there 5)
+
+-- ---- where no unit holds anything to send, nothing is sent
+module _ {b : Block} (known : IsConsistentBlock b) where
+  pub no_replies_sent : (closed : List ℕ) → HasNoneFrom b.sets.holds_replies 0 → seen_of b ≡ after_units (sends_replies closed) 320 (seen_of b)
+  no_replies_sent closed none =
+      none_to_do (sends_replies closed) (seen_of b) (λ k. sends_no_reply (seen_of b) closed k (let said = known.facts k in let unit = unit_is b.net k in let not_there = none k in grind arith))
+
+  pub no_requests_sent : (closed : Ports (List ℕ)) → HasNoneFrom b.sets.holds_requests 0 → seen_of b ≡ after_units (sends_requests closed) 320 (seen_of b)
+  no_requests_sent closed none =
+      none_to_do (sends_requests closed) (seen_of b) (λ k. sends_no_request (seen_of b) closed k (let said = known.facts k in let unit = unit_is b.net k in let not_there = none k in grind arith))
+
+-- ---- in a small machine no unit is past the first word of a set
+module _ {b : Block} (known : IsConsistentBlock b) (low : 1 ≤ b.net) (high : b.net ≤ 6) (small : IsSmall b.net) where
+  none_past : (k : ℕ) → 64 ≤ k → facts_at b.sets k ≡ no_facts
+  none_past k past =
+      let few = few_units b.net low high small in
+      let unit = unit_is b.net k in
+      grind (arith, known.facts)
+
+  pub no_reply_held_past : HasNoneFrom b.sets.holds_replies 64
+  no_reply_held_past k past = ap UnitFacts.holds_replies (none_past k past)
+
+  pub no_request_held_past : HasNoneFrom b.sets.holds_requests 64
+  no_request_held_past k past = ap UnitFacts.holds_requests (none_past k past)
+
+  pub replies_open_past : HasNoneFrom b.sets.no_reply_room 64
+  replies_open_past k past = ap UnitFacts.no_reply_room (none_past k past)
+
+  pub requests_open_past : AreOpenFrom 64 b.sets.no_request_room
+  requests_open_past = (λ k past. ap UnitFacts.no_room_zero (none_past k past), λ k past. ap UnitFacts.no_room_one (none_past k past))
 
 -- ---- what leads to units elsewhere
 -- `away` are the units outside the block to which messages of a kind lead

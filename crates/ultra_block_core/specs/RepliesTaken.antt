@@ -1,5 +1,5 @@
 -- the half of a cycle in which replies come to switches and processing elements
-use Rattle.std.specs.Prelude.{ℕ, ◌<◌, [], ◌∷◌, ◌++◌, length, Option, Some, None, slice_set}
+use Rattle.std.specs.Prelude.{ℕ, [], ◌∷◌, ◌++◌, Option, Some, None, slice_set}
 use Rattle.ultra_block_core.specs.Prelude.{ForSome, ReplyMessage, Ports, present, delivery, CanDeliver, CanTakeReplies, after_replies, delivered_to, Unit as UnitName, of_unit, unit_of, reply_links, delivery_link, on_link, on_both, without_both}
 use Rattle.ultra_topology.specs.declared.unit.Unit.TheVariants as unit
 use Rattle.ultra_block_core.specs.BlockState.{BlockState, HasEventRoom, own_switch, own_element}

@@ -1,6 +1,6 @@
 -- what blocks note of their rooms
-use Rattle.std.specs.Prelude.{◌≡◌, ℕ, ◌^◌, ◌<◌, not, ◌||◌, is_some, replicate}
-use Rattle.ultra_block_core.specs.{Prelude.has_unit, Prelude.switch_count, Prelude.module_number, Prelude.has_reply_room, Prelude.has_request_room, Sets.if_here, BlockState.BlockState, BlockState.own_switch, BlockState.own_module, declared.rooms.Rooms.Rooms}
+use Rattle.std.specs.Prelude.{◌≡◌, ℕ, List, ◌^◌, ◌<◌, not, ◌||◌, is_some, replicate}
+use Rattle.ultra_block_core.specs.{Prelude.HasNoneFrom, Prelude.Ports, Prelude.has_unit, Prelude.switch_count, Prelude.module_number, Prelude.has_reply_room, Prelude.has_request_room, Sets.if_here, BlockState.BlockState, BlockState.own_switch, BlockState.own_module, declared.rooms.Rooms.Rooms}
 
 -- a block has noted which of its units have no room; of the others it leaves what was noted
 pub record HasNoted (b : BlockState) (old now : Rooms) : Type 0 where
@@ -20,6 +20,10 @@ pub record HasNoted (b : BlockState) (old now : Rooms) : Type 0 where
       → has_unit now.no_request_room.zero (module_number b.stages m)
       ≡ (has_unit old.no_request_room.zero (module_number b.stages m)
       || if_here (λ memory_module. is_some memory_module.inp) (own_module b.modules m))
+
+-- no unit from `from` on is closed to requests, by the memory-side port
+abbrev pub AreOpenFrom : ℕ → Ports (List ℕ) → Type 0
+AreOpenFrom from closed = HasNoneFrom closed.zero from × HasNoneFrom closed.one from
 
 -- there is room everywhere
 abbrev pub all_open : Rooms

@@ -107,10 +107,12 @@ impl Sets {
     pub(crate) fn note_switch_sent_replies(&mut self, unit: UnitNumber, switch: &Switch)
         ensures { AreNoted unit (replies_noted ◌&&◌ switch.now) self.old self.new }
     {
-        let is_full = !switches::has_reply_room(switch);
         self.holds_replies
             .remove_unless(unit, switches::holds_replies(switch));
-        self.no_reply_room.remove_unless(unit, is_full);
+        if self.no_reply_room.has(unit) {
+            let is_full = !switches::has_reply_room(switch);
+            self.no_reply_room.remove_unless(unit, is_full);
+        }
     }
 
     /// Notes what is true of the requests of a switch of the block, once requests have left it.
@@ -118,11 +120,14 @@ impl Sets {
     pub(crate) fn note_switch_sent_requests(&mut self, unit: UnitNumber, switch: &Switch)
         ensures { AreNoted unit (requests_noted ◌&&◌ switch.now) self.old self.new }
     {
-        let room = switches::has_request_room(switch);
         self.holds_requests
             .remove_unless(unit, switches::holds_requests(switch));
-        self.no_request_room.zero.remove_unless(unit, !room.zero);
-        self.no_request_room.one.remove_unless(unit, !room.one);
+        let no_room = &mut self.no_request_room;
+        if no_room.zero.has(unit) || no_room.one.has(unit) {
+            let room = switches::has_request_room(switch);
+            no_room.zero.remove_unless(unit, !room.zero);
+            no_room.one.remove_unless(unit, !room.one);
+        }
     }
 
     /// Notes what is true of a switch of the block, once replies have come to it. It keeps no record that it didn't keep before.

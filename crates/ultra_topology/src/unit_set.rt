@@ -101,6 +101,20 @@ impl UnitSet {
         self.words[0] == 0 && self.is_in_first_word()
     }
 
+    /// The same as `is_empty`. In a `SMALL` machine only the first word is read, since no unit is past it.
+    #[inline(always)]
+    #[tactic(auto, using(crate::proofs::Set::set_steps, crate::proofs::Set::zero_where_none))]
+    pub fn is_empty_sized<const SMALL: bool>(&self) -> bool
+        requires { SMALL ≡ true → HasNoneFrom self.now 64 }
+        ensures { (result ≡ true) ↔ HasNoneFrom self.now 0 }
+    {
+        if SMALL {
+            self.words[0] == 0
+        } else {
+            self.is_empty()
+        }
+    }
+
     /// Whether a unit is in the set.
     #[inline(always)]
     #[tactic(auto, using(std::proofs::lemmas::Nat::Bits::shr_and_one), unfolding(crate::specs::Set::has_unit))]

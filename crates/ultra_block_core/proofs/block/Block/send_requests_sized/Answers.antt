@@ -1,0 +1,9 @@
+use Rattle.std.proofs.Common.{arith}
+use Rattle.ultra_block_core.proofs.Known.{no_request_held_past, no_requests_sent}
+use Rattle.ultra_block_core.proofs.block.Block.send_requests_sized.Goals as goal
+
+pub is_empty_sized-requires : goal.is_empty_sized-requires
+is_empty_sized-requires g c = λ is. no_request_held_past c.self.invariant (omega arith) (omega arith) (rw (← c.self.view_is) at (c.requires.small is))
+
+pub returns-then-is_empty_sized : goal.returns-then-is_empty_sized
+returns-then-is_empty_sized g c = rw (c.self.view_is) at (no_requests_sent c.self.invariant c.args.closed.now (c.is_empty_sized.ensures.0 c.if-is_empty_sized.true))
