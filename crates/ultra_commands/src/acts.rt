@@ -10,11 +10,10 @@ ghost use Rattle.ultra_inputs.specs.declared.failure.Failure.TheVariants.{HeapFu
 ghost use Rattle.ultra_commands.specs.Explanation.{tree_line, event_line, event_lines, trees_after_all, StopsAtCombination};
 
 use crate::line_buffer::LineBuffer;
-use itoa::Buffer;
 use std::alloc::Allocator;
 use ultra_inputs::Failure;
-use ultra_msg::{Cell, Event, Sink, SinkFault, write_all, write_pieces};
-use ultra_tree::{Explainer, Tree, write_tree};
+use ultra_msg::{Cell, Event, Sink, SinkFault, write_all};
+use ultra_tree::{Explainer, ShortText, Tree, add_bytes, add_number, write_tree};
 
 /// Puts the lines of a cycle's acts at the end of the lines that wait. `HeapFull` says that the
 /// explainer's memory was refused, and `NoMemory` that memory for the lines was. A prefix of the
@@ -121,19 +120,13 @@ fn write_place<S: Sink>(
         decimal cell ++ codes " ") (S.taken sink.old) (S.taken sink.new) (S.failures sink.old)
         (S.failures sink.new) }
 {
-    let mut of_cycle = Buffer::new();
-    let mut of_module = Buffer::new();
-    let mut of_cell = Buffer::new();
-    write_pieces(
-        sink,
-        &[
-            b"cycle ",
-            of_cycle.format(cycle).as_bytes(),
-            b" module ",
-            of_module.format(memory_module).as_bytes(),
-            b" cell ",
-            of_cell.format(cell).as_bytes(),
-            b" ",
-        ],
-    )
+    let mut text = ShortText::new();
+    add_bytes(&mut text, b"cycle ");
+    add_number(&mut text, cycle);
+    add_bytes(&mut text, b" module ");
+    add_number(&mut text, memory_module);
+    add_bytes(&mut text, b" cell ");
+    add_number(&mut text, cell);
+    add_bytes(&mut text, b" ");
+    write_all(sink, text.as_slice())
 }

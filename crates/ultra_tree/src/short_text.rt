@@ -9,14 +9,14 @@ use arrayvec::ArrayVec;
 use itoa::Buffer;
 
 /// How many bytes a short text has room for.
-pub(crate) const SHORT_BYTES: usize = 64;
+pub const SHORT_BYTES: usize = 64;
 
 /// The bytes of a short text.
-pub(crate) type ShortText = ArrayVec<u8, SHORT_BYTES>;
+pub type ShortText = ArrayVec<u8, SHORT_BYTES>;
 
 /// Adds bytes to a text.
 #[inline(always)]
-pub(crate) fn add(text: &mut ShortText, bytes: &[u8])
+pub fn add_bytes(text: &mut ShortText, bytes: &[u8])
     requires { array_vec_len text.old + length bytes.now ≤ SHORT_BYTES }
     ensures items { text.new.items ≡ text.old.items ++ bytes.now }
     ensures len { array_vec_len text.new ≡ array_vec_len text.old + length bytes.now }
@@ -28,7 +28,7 @@ pub(crate) fn add(text: &mut ShortText, bytes: &[u8])
 
 /// Adds a number in decimal digits, at most 10.
 #[inline(always)]
-pub(crate) fn add_number(text: &mut ShortText, number: u32)
+pub fn add_number(text: &mut ShortText, number: u32)
     requires { array_vec_len text.old + 10 ≤ SHORT_BYTES }
     ensures items { text.new.items ≡ text.old.items ++ decimal number }
     ensures len { array_vec_len text.new ≤ array_vec_len text.old + 10 }
@@ -41,7 +41,7 @@ pub(crate) fn add_number(text: &mut ShortText, number: u32)
         text.push(b'0' + (number % 10) as u8);
     } else {
         let mut buffer = Buffer::new();
-        add(text, buffer.format(number).as_bytes());
+        add_bytes(text, buffer.format(number).as_bytes());
     }
 }
 
@@ -66,7 +66,7 @@ pub(crate) fn add_mark(text: &mut ShortText, mark: Option<bool>)
 {
     match mark {
         None => {}
-        Some(true) => add(text, b" < "),
-        Some(false) => add(text, b" > "),
+        Some(true) => add_bytes(text, b" < "),
+        Some(false) => add_bytes(text, b" > "),
     }
 }

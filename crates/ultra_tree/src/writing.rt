@@ -8,7 +8,7 @@ ghost use Rattle.ultra_tree.specs.Seen.{seen};
 ghost use Rattle.ultra_tree.specs.declared.writing.TheConstants.{FEW_CLOSINGS};
 ghost use Rattle.ultra_tree.specs.Text.{leaf_text, head_text, opening, closings, order_mark_text, tree_text};
 
-use crate::short_text::{ShortText, add, add_closings, add_mark, add_number};
+use crate::short_text::{ShortText, add_bytes, add_closings, add_mark, add_number};
 use crate::trees::{CountedNode, Tree};
 use itoa::Buffer;
 use std::alloc::Allocator;
@@ -106,7 +106,7 @@ fn write_leaf_at_once<S: Sink>(
 {
     let mut text = ShortText::new();
     add_number(&mut text, pe);
-    add(&mut text, b".");
+    add_bytes(&mut text, b".");
     add_number(&mut text, number);
     add_closings(&mut text, closing);
     add_mark(&mut text, mark);
@@ -170,11 +170,11 @@ fn write_head<S: Sink>(stage: u32, position: u32, sink: &mut S) -> Result<(), Si
         (S.taken sink.old) (S.taken sink.new) (S.failures sink.old) (S.failures sink.new) }
 {
     let mut text = ShortText::new();
-    add(&mut text, b"[s");
+    add_bytes(&mut text, b"[s");
     add_number(&mut text, stage);
-    add(&mut text, b"x");
+    add_bytes(&mut text, b"x");
     add_number(&mut text, position);
-    add(&mut text, b" ");
+    add_bytes(&mut text, b" ");
     write_all(sink, text.as_slice())
 }
 
