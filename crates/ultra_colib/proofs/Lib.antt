@@ -16,3 +16,4 @@ pub mod TicketRoundsText
 pub mod QueueText
 pub mod OnMachine
 pub mod Given
+pub mod AfterRun

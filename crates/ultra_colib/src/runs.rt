@@ -1,7 +1,9 @@
 //! The coordination programs on the paracomputer.
 
-ghost use Rattle.std.specs.Prelude.{◌≡◌, ◌↔◌, ◌<◌, ◌&&◌, All, false, IfOk, slice_index};
+ghost use Rattle.std.specs.Prelude.{◌≡◌, ◌↔◌, ◌<◌, ◌&&◌, All, Bool, false, List, [], IfOk, slice_index};
+ghost use Rattle.ultra_isa.specs.declared.Instr.{Instr};
 ghost use Rattle.ultra_model.specs.Machine.{size, is_empty};
+ghost use Rattle.ultra_model.specs.Ranges.{AreInRange};
 ghost use Rattle.ultra_para.specs.Para.{start_para, run_para};
 ghost use Rattle.ultra_colib.specs.Gate.{gate, AreFewInside};
 ghost use Rattle.ultra_colib.specs.ReadersWriters.{readers_writers, AreWritersAlone};
@@ -11,23 +13,40 @@ ghost use Rattle.ultra_colib.specs.Parameters.{gate_takes, rw_takes, barrier_tak
 
 use crate::ColibFault;
 use crate::programs::{barrier_program, gate_program, queue_program, rw_program};
-use std::alloc::{AllocError, Global};
+use std::alloc::Global;
 use ultra_isa::Program;
 use ultra_model::Config;
 use ultra_msg::Pe;
 use ultra_para::Para;
 
-/// The paracomputer of these settings and this program after a schedule.
+/// The paracomputer with these settings, all of whose cells are 0 at first, after a schedule of the
+/// program that a generator gave.
+///
+/// `BadParameter` means that the generator gave it or that cells have initial values.
 fn run(
     alloc: Global,
     config: &Config,
-    program: &Program,
+    program: Result<Program, ColibFault>,
     schedule: &[Pe],
-) -> Result<Para, AllocError>
+) -> Result<Para, ColibFault>
     requires { All (λ p. p < size config.now) schedule.now }
-    ensures { IfOk result (λ m. m ≡ record { settings = config.now; program = program.now; state = run_para config.now program.now (start_para config.now) schedule.now }) }
+    ensures state { (p : List Instr) → IfOk program (λ q. q ≡ p) →
+        IfOk result (λ m. m ≡ record {
+          settings = config.now;
+          program = p;
+          state = run_para config.now p (start_para config.now) schedule.now;
+        }) }
+    ensures start { IfOk result (λ _. AreInRange config.now × (config.now.initial ≡ [])) }
+    ensures parameters { (takes : Bool) →
+        ((program ≡ Err ColibFault.BadParameter) ↔ (takes ≡ false)) →
+        ((result ≡ Err ColibFault.BadParameter) ↔
+        ((is_empty config.now.initial && takes) ≡ false)) }
 {
-    let mut para = Para::new(alloc, config, program)?;
+    if !config.initial().is_empty() {
+        return Err(ColibFault::BadParameter);
+    }
+    let program = program?;
+    let mut para = Para::new(alloc, config, &program)?;
     para.run(schedule);
     Ok(para)
 }
@@ -47,11 +66,7 @@ pub fn run_gate(
     ensures law { IfOk result (λ m. AreFewInside bound (size config.now) (slice_index m.state.cells)) }
     ensures parameters { (result ≡ Err ColibFault.BadParameter) ↔ ((is_empty config.now.initial && gate_takes bound rounds) ≡ false) }
 {
-    if !config.initial().is_empty() {
-        return Err(ColibFault::BadParameter);
-    }
-    let program = gate_program(alloc, bound, rounds)?;
-    Ok(run(alloc, config, &program, schedule)?)
+    run(alloc, config, gate_program(alloc, bound, rounds), schedule)
 }
 
 /// The readers and writers on a paracomputer with these settings, after a schedule. All cells are 0 at first. Each number of the schedule is the processing element that makes the step.
@@ -69,11 +84,7 @@ pub fn run_rw(
     ensures law { IfOk result (λ m. AreWritersAlone (size config.now) (slice_index m.state.cells)) }
     ensures parameters { (result ≡ Err ColibFault.BadParameter) ↔ ((is_empty config.now.initial && rw_takes writers rounds) ≡ false) }
 {
-    if !config.initial().is_empty() {
-        return Err(ColibFault::BadParameter);
-    }
-    let program = rw_program(alloc, writers, rounds)?;
-    Ok(run(alloc, config, &program, schedule)?)
+    run(alloc, config, rw_program(alloc, writers, rounds), schedule)
 }
 
 /// The barrier on a paracomputer with these settings, all of whose cells are 0 at first, after a schedule: each number is the processing element that makes the step.
@@ -90,11 +101,7 @@ pub fn run_barrier(
     ensures law { IfOk result (λ m. AreInStep (size config.now) (slice_index m.state.cells)) }
     ensures parameters { (result ≡ Err ColibFault.BadParameter) ↔ ((is_empty config.now.initial && barrier_takes rounds) ≡ false) }
 {
-    if !config.initial().is_empty() {
-        return Err(ColibFault::BadParameter);
-    }
-    let program = barrier_program(alloc, rounds)?;
-    Ok(run(alloc, config, &program, schedule)?)
+    run(alloc, config, barrier_program(alloc, rounds), schedule)
 }
 
 /// The queue with `2^log_size` places on a paracomputer with these settings, after a schedule. All cells are 0 at first. Each number of the schedule is the processing element that makes the step.
@@ -112,9 +119,10 @@ pub fn run_queue(
     ensures law { IfOk result (λ m. AreItemsOnce log_size rounds (size config.now) (slice_index m.state.cells)) }
     ensures parameters { (result ≡ Err ColibFault.BadParameter) ↔ ((is_empty config.now.initial && queue_takes log_size rounds) ≡ false) }
 {
-    if !config.initial().is_empty() {
-        return Err(ColibFault::BadParameter);
-    }
-    let program = queue_program(alloc, log_size, rounds)?;
-    Ok(run(alloc, config, &program, schedule)?)
+    run(
+        alloc,
+        config,
+        queue_program(alloc, log_size, rounds),
+        schedule,
+    )
 }

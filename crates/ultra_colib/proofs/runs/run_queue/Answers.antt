@@ -1,21 +1,14 @@
-use Rattle.std.proofs.Common.{◌≡◌, List, [], sym, ◌∙◌, subst}
-use Rattle.std.specs.Prelude.{slice_index}
-use Rattle.ultra_isa.specs.declared.Instr.{Instr}
-use Rattle.ultra_model.specs.Machine.{size}
-use Rattle.ultra_model.proofs.Ranged.{in_range}
-use Rattle.ultra_para.specs.Para.{start_para, run_para}
-use Rattle.ultra_para.specs.Programmed.{Programmed}
-use Rattle.ultra_colib.specs.Queue.{AreItemsOnce}
+use Rattle.ultra_colib.specs.Queue.{queue, AreItemsOnce}
+use Rattle.ultra_colib.specs.Parameters.{queue_takes}
 use Rattle.ultra_colib.proofs.Queue.{kept}
-use Rattle.ultra_colib.specs.declared.fault.ColibFault.TheVariants.{BadParameter}
-use Rattle.ultra_colib.proofs.Given.{none_of, queue_of}
+use Rattle.ultra_colib.proofs.Given.{queue_taken}
+use Rattle.ultra_colib.proofs.AfterRun.{law_after_run}
 use Rattle.ultra_colib.proofs.runs.run_queue.Goals as goal
+
+pub returns-clause-state : goal.returns-clause-state
+returns-clause-state c = c.run.ensures.state (queue c.args.log_size c.args.rounds) c.queue_program.ensures.program
 
 pub returns-clause-law : goal.returns-clause-law
 returns-clause-law c =
-    let s = c.args.config.now in
-    let empty : s.initial ≡ [] = sym c.initial.ensures.value ∙ none_of c.initial.result.now c.is_empty.result c.is_empty.ensures c.if-not-is_empty.false in
-    let taken = queue_of c.in_ok-program.program BadParameter c.args.log_size c.args.rounds c.in_ok-program.ensures.parameters.1 in
-    subst (λ (m : Programmed). AreItemsOnce c.args.log_size c.args.rounds (size s) (slice_index m.state.cells)) (sym c.in_ok-run.ensures)
-    (subst (λ (p : List Instr). AreItemsOnce c.args.log_size c.args.rounds (size s) (slice_index (run_para s p (start_para s) c.args.schedule.now).cells)) (sym c.in_ok-program.ensures.program)
-    (kept c.args.log_size c.args.rounds taken.0 taken.1 taken.2 s (in_range s c.initial.ensures.valid) empty c.args.schedule.now c.requires))
+    let refused = (c.run.ensures.parameters (queue_takes c.args.log_size c.args.rounds) c.queue_program.ensures.parameters).1 in
+    law_after_run c.args.config.now (queue c.args.log_size c.args.rounds) c.args.schedule.now (queue_takes c.args.log_size c.args.rounds) (AreItemsOnce c.args.log_size c.args.rounds) c.run.result (returns-clause-state c) c.run.ensures.start refused (λ t. let r = queue_taken c.args.log_size c.args.rounds t in kept c.args.log_size c.args.rounds r.0 r.1 r.2) c.requires
