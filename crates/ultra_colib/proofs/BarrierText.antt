@@ -8,22 +8,25 @@ use Rattle.ultra_asm.specs.Labels.{label_pc}
 use Rattle.ultra_asm.specs.ProgramText.{AreInstructions, statements, AreLinesOf, IsProgramText}
 use Rattle.ultra_asm.proofs.Spelled.{operands_back}
 use Rattle.ultra_colib.specs.Barrier.{barrier}
-use Rattle.ultra_colib.specs.Texts.{text_with_numbers, barrier_pieces, barrier_numbers, barrier_text}
-use Rattle.ultra_colib.proofs.Reading.{Lines, words, number_line, labels_of}
+use Rattle.ultra_colib.specs.Texts.{text_of_lines, barrier_lines, barrier_text}
+use Rattle.ultra_colib.proofs.Reading.{Lines, words, words_from, number_line, labels_of}
 
 module _ (rounds : ℕ) (rounds_small : rounds < 2 ^ 32) where
-  -- the text behind the line with number i
-  abbrev rest : ℕ → List ℕ
-  rest i = drop 1 (text_with_numbers (drop (i + 1) barrier_pieces) (drop (i + 1) (barrier_numbers rounds)))
+  abbrev lines : List (List ℕ)
+  lines = barrier_lines rounds
 
-  line_0 : text_words (codes "li r8 " ++ (decimal rounds ++ 10 ∷ rest 0)) ≡ words Set (Register 8 ∷ Number rounds ∷ []) ∷ text_words (rest 0)
-  line_0 = number_line Set (Register 8 ∷ Number rounds ∷ []) (codes "li r8 ") rounds (rest 0) (omega arith, (omega arith, tt)) (rw (decimal_digit 8 (omega arith)) refl)
+  -- the text behind line i
+  abbrev rest : ℕ → List ℕ
+  rest i = text_of_lines (drop (i + 1) lines)
+
+  line_7 : text_words (codes "li r8 " ++ (decimal rounds ++ 10 ∷ rest 7)) ≡ words Set (Register 8 ∷ Number rounds ∷ []) ∷ text_words (rest 7)
+  line_7 = number_line Set (Register 8 ∷ Number rounds ∷ []) (codes "li r8 ") rounds (rest 7) (omega arith, (omega arith, tt)) (rw (decimal_digit 8 (omega arith)) refl)
 
   abbrev all_lines : Lines
-  all_lines = text_words (codes "pid r1\naddi r2 r1 8\nnp r3\nadd r4 r2 r3\nli r5 1\nsub r6 r3 r5\nli r7 0") ++ (words Set (Register 8 ∷ Number rounds ∷ []) ∷ text_words (rest 0))
+  all_lines = words_from 0 7 lines ++ (words Set (Register 8 ∷ Number rounds ∷ []) ∷ text_words (rest 7))
 
   lines_are : text_words (barrier_text rounds) ≡ all_lines
-  lines_are = ap (λ ls. text_words (codes "pid r1\naddi r2 r1 8\nnp r3\nadd r4 r2 r3\nli r5 1\nsub r6 r3 r5\nli r7 0") ++ ls) line_0
+  lines_are = ap (λ ls. words_from 0 7 lines ++ ls) line_7
 
   instructions : AreInstructions (label_pc all_lines) (statements all_lines) (barrier rounds)
   instructions = (

@@ -8,25 +8,28 @@ use Rattle.ultra_asm.specs.Labels.{label_pc}
 use Rattle.ultra_asm.specs.ProgramText.{AreInstructions, statements, AreLinesOf, IsProgramText}
 use Rattle.ultra_asm.proofs.Spelled.{operands_back}
 use Rattle.ultra_colib.specs.Gate.{gate}
-use Rattle.ultra_colib.specs.Texts.{text_with_numbers, gate_pieces, gate_numbers, gate_text}
-use Rattle.ultra_colib.proofs.Reading.{Lines, words, number_line, labels_of}
+use Rattle.ultra_colib.specs.Texts.{text_of_lines, gate_lines, gate_text}
+use Rattle.ultra_colib.proofs.Reading.{Lines, words, words_from, number_line, labels_of}
 
 module _ (bound : ℕ) (bound_small : bound < 2 ^ 32) (rounds : ℕ) (rounds_small : rounds < 2 ^ 32) where
-  -- the text behind the line with number i
+  abbrev lines : List (List ℕ)
+  lines = gate_lines bound rounds
+
+  -- the text behind line i
   abbrev rest : ℕ → List ℕ
-  rest i = drop 1 (text_with_numbers (drop (i + 1) gate_pieces) (drop (i + 1) (gate_numbers bound rounds)))
+  rest i = text_of_lines (drop (i + 1) lines)
 
-  line_0 : text_words (codes "li r4 " ++ (decimal bound ++ 10 ∷ rest 0)) ≡ words Set (Register 4 ∷ Number bound ∷ []) ∷ text_words (rest 0)
-  line_0 = number_line Set (Register 4 ∷ Number bound ∷ []) (codes "li r4 ") bound (rest 0) (omega arith, (omega arith, tt)) (rw (decimal_digit 4 (omega arith)) refl)
+  line_3 : text_words (codes "li r4 " ++ (decimal bound ++ 10 ∷ rest 3)) ≡ words Set (Register 4 ∷ Number bound ∷ []) ∷ text_words (rest 3)
+  line_3 = number_line Set (Register 4 ∷ Number bound ∷ []) (codes "li r4 ") bound (rest 3) (omega arith, (omega arith, tt)) (rw (decimal_digit 4 (omega arith)) refl)
 
-  line_1 : text_words (codes "li r5 " ++ (decimal rounds ++ 10 ∷ rest 1)) ≡ words Set (Register 5 ∷ Number rounds ∷ []) ∷ text_words (rest 1)
-  line_1 = number_line Set (Register 5 ∷ Number rounds ∷ []) (codes "li r5 ") rounds (rest 1) (omega arith, (omega arith, tt)) (rw (decimal_digit 5 (omega arith)) refl)
+  line_4 : text_words (codes "li r5 " ++ (decimal rounds ++ 10 ∷ rest 4)) ≡ words Set (Register 5 ∷ Number rounds ∷ []) ∷ text_words (rest 4)
+  line_4 = number_line Set (Register 5 ∷ Number rounds ∷ []) (codes "li r5 ") rounds (rest 4) (omega arith, (omega arith, tt)) (rw (decimal_digit 5 (omega arith)) refl)
 
   abbrev all_lines : Lines
-  all_lines = text_words (codes "pid r1\naddi r1 r1 8\nli r3 1") ++ (words Set (Register 4 ∷ Number bound ∷ []) ∷ (words Set (Register 5 ∷ Number rounds ∷ []) ∷ text_words (rest 1)))
+  all_lines = words_from 0 3 lines ++ (words Set (Register 4 ∷ Number bound ∷ []) ∷ (words Set (Register 5 ∷ Number rounds ∷ []) ∷ text_words (rest 4)))
 
   lines_are : text_words (gate_text bound rounds) ≡ all_lines
-  lines_are = ap (λ ls. text_words (codes "pid r1\naddi r1 r1 8\nli r3 1") ++ ls) (line_0 ∙ ap (λ ls. words Set (Register 4 ∷ Number bound ∷ []) ∷ ls) (line_1))
+  lines_are = ap (λ ls. words_from 0 3 lines ++ ls) (line_3 ∙ ap (λ ls. words Set (Register 4 ∷ Number bound ∷ []) ∷ ls) (line_4))
 
   instructions : AreInstructions (label_pc all_lines) (statements all_lines) (gate bound rounds)
   instructions = (

@@ -9,49 +9,52 @@ use Rattle.ultra_asm.specs.Labels.{label_pc}
 use Rattle.ultra_asm.specs.ProgramText.{AreInstructions, statements, AreLinesOf, IsProgramText}
 use Rattle.ultra_asm.proofs.Spelled.{operands_back}
 use Rattle.ultra_colib.specs.Queue.{queue}
-use Rattle.ultra_colib.specs.Texts.{text_with_numbers, queue_pieces, queue_numbers, queue_text}
-use Rattle.ultra_colib.proofs.Reading.{Lines, words, number_line, decimal_eleven, labels_of}
+use Rattle.ultra_colib.specs.Texts.{text_of_lines, queue_lines, queue_text}
+use Rattle.ultra_colib.proofs.Reading.{Lines, words, words_from, number_line, decimal_eleven, labels_of}
 
 module _ (z : ℕ) (z_small : z ≤ 6) (rounds : ℕ) (rounds_small : rounds < 2 ^ 32) where
   places_small : 2 ^ z ≤ 64
   places_small = pow_mono z_small
 
-  -- the text behind the line with number i
+  abbrev lines : List (List ℕ)
+  lines = queue_lines z rounds (2 ^ z) (2 ^ z - 1) (8 + 2 ^ z) (7 + 2 * 2 ^ z)
+
+  -- the text behind line i
   abbrev rest : ℕ → List ℕ
-  rest i = drop 1 (text_with_numbers (drop (i + 1) queue_pieces) (drop (i + 1) (queue_numbers z rounds)))
+  rest i = text_of_lines (drop (i + 1) lines)
 
-  line_0 : text_words (codes "li r4 " ++ (decimal (2 ^ z) ++ 10 ∷ rest 0)) ≡ words Set (Register 4 ∷ Number (2 ^ z) ∷ []) ∷ text_words (rest 0)
-  line_0 = number_line Set (Register 4 ∷ Number (2 ^ z) ∷ []) (codes "li r4 ") (2 ^ z) (rest 0) (let few = places_small in (omega arith, (omega arith, tt))) (rw (decimal_digit 4 (omega arith)) refl)
+  line_4 : text_words (codes "li r4 " ++ (decimal (2 ^ z) ++ 10 ∷ rest 4)) ≡ words Set (Register 4 ∷ Number (2 ^ z) ∷ []) ∷ text_words (rest 4)
+  line_4 = number_line Set (Register 4 ∷ Number (2 ^ z) ∷ []) (codes "li r4 ") (2 ^ z) (rest 4) (let few = places_small in (omega arith, (omega arith, tt))) (rw (decimal_digit 4 (omega arith)) refl)
 
-  line_1 : text_words (codes "li r5 " ++ (decimal rounds ++ 10 ∷ rest 1)) ≡ words Set (Register 5 ∷ Number rounds ∷ []) ∷ text_words (rest 1)
-  line_1 = number_line Set (Register 5 ∷ Number rounds ∷ []) (codes "li r5 ") rounds (rest 1) (let few = places_small in (omega arith, (omega arith, tt))) (rw (decimal_digit 5 (omega arith)) refl)
+  line_5 : text_words (codes "li r5 " ++ (decimal rounds ++ 10 ∷ rest 5)) ≡ words Set (Register 5 ∷ Number rounds ∷ []) ∷ text_words (rest 5)
+  line_5 = number_line Set (Register 5 ∷ Number rounds ∷ []) (codes "li r5 ") rounds (rest 5) (let few = places_small in (omega arith, (omega arith, tt))) (rw (decimal_digit 5 (omega arith)) refl)
 
-  line_2 : text_words (codes "shr r8 r7 " ++ (decimal z ++ 10 ∷ rest 2)) ≡ words ShiftRight (Register 8 ∷ Register 7 ∷ Bits z ∷ []) ∷ text_words (rest 2)
-  line_2 = number_line ShiftRight (Register 8 ∷ Register 7 ∷ Bits z ∷ []) (codes "shr r8 r7 ") z (rest 2) (let few = places_small in (omega arith, (omega arith, (omega arith, tt)))) (rw (decimal_digit 8 (omega arith), decimal_digit 7 (omega arith)) refl)
+  line_24 : text_words (codes "shr r8 r7 " ++ (decimal z ++ 10 ∷ rest 24)) ≡ words ShiftRight (Register 8 ∷ Register 7 ∷ Bits z ∷ []) ∷ text_words (rest 24)
+  line_24 = number_line ShiftRight (Register 8 ∷ Register 7 ∷ Bits z ∷ []) (codes "shr r8 r7 ") z (rest 24) (let few = places_small in (omega arith, (omega arith, (omega arith, tt)))) (rw (decimal_digit 8 (omega arith), decimal_digit 7 (omega arith)) refl)
 
-  line_3 : text_words (codes "li r9 " ++ (decimal (2 ^ z - 1) ++ 10 ∷ rest 3)) ≡ words Set (Register 9 ∷ Number (2 ^ z - 1) ∷ []) ∷ text_words (rest 3)
-  line_3 = number_line Set (Register 9 ∷ Number (2 ^ z - 1) ∷ []) (codes "li r9 ") (2 ^ z - 1) (rest 3) (let few = places_small in (omega arith, (omega arith, tt))) (rw (decimal_digit 9 (omega arith)) refl)
+  line_26 : text_words (codes "li r9 " ++ (decimal (2 ^ z - 1) ++ 10 ∷ rest 26)) ≡ words Set (Register 9 ∷ Number (2 ^ z - 1) ∷ []) ∷ text_words (rest 26)
+  line_26 = number_line Set (Register 9 ∷ Number (2 ^ z - 1) ∷ []) (codes "li r9 ") (2 ^ z - 1) (rest 26) (let few = places_small in (omega arith, (omega arith, tt))) (rw (decimal_digit 9 (omega arith)) refl)
 
-  line_4 : text_words (codes "addi r11 r9 " ++ (decimal (8 + 2 ^ z) ++ 10 ∷ rest 4)) ≡ words AddWord (Register 11 ∷ Register 9 ∷ Number (8 + 2 ^ z) ∷ []) ∷ text_words (rest 4)
-  line_4 = number_line AddWord (Register 11 ∷ Register 9 ∷ Number (8 + 2 ^ z) ∷ []) (codes "addi r11 r9 ") (8 + 2 ^ z) (rest 4) (let few = places_small in (omega arith, (omega arith, (omega arith, tt)))) (rw (decimal_eleven, decimal_digit 9 (omega arith)) refl)
+  line_29 : text_words (codes "addi r11 r9 " ++ (decimal (8 + 2 ^ z) ++ 10 ∷ rest 29)) ≡ words AddWord (Register 11 ∷ Register 9 ∷ Number (8 + 2 ^ z) ∷ []) ∷ text_words (rest 29)
+  line_29 = number_line AddWord (Register 11 ∷ Register 9 ∷ Number (8 + 2 ^ z) ∷ []) (codes "addi r11 r9 ") (8 + 2 ^ z) (rest 29) (let few = places_small in (omega arith, (omega arith, (omega arith, tt)))) (rw (decimal_eleven, decimal_digit 9 (omega arith)) refl)
 
-  line_5 : text_words (codes "shr r8 r7 " ++ (decimal z ++ 10 ∷ rest 5)) ≡ words ShiftRight (Register 8 ∷ Register 7 ∷ Bits z ∷ []) ∷ text_words (rest 5)
-  line_5 = number_line ShiftRight (Register 8 ∷ Register 7 ∷ Bits z ∷ []) (codes "shr r8 r7 ") z (rest 5) (let few = places_small in (omega arith, (omega arith, (omega arith, tt)))) (rw (decimal_digit 8 (omega arith), decimal_digit 7 (omega arith)) refl)
+  line_62 : text_words (codes "shr r8 r7 " ++ (decimal z ++ 10 ∷ rest 62)) ≡ words ShiftRight (Register 8 ∷ Register 7 ∷ Bits z ∷ []) ∷ text_words (rest 62)
+  line_62 = number_line ShiftRight (Register 8 ∷ Register 7 ∷ Bits z ∷ []) (codes "shr r8 r7 ") z (rest 62) (let few = places_small in (omega arith, (omega arith, (omega arith, tt)))) (rw (decimal_digit 8 (omega arith), decimal_digit 7 (omega arith)) refl)
 
-  line_6 : text_words (codes "li r9 " ++ (decimal (2 ^ z - 1) ++ 10 ∷ rest 6)) ≡ words Set (Register 9 ∷ Number (2 ^ z - 1) ∷ []) ∷ text_words (rest 6)
-  line_6 = number_line Set (Register 9 ∷ Number (2 ^ z - 1) ∷ []) (codes "li r9 ") (2 ^ z - 1) (rest 6) (let few = places_small in (omega arith, (omega arith, tt))) (rw (decimal_digit 9 (omega arith)) refl)
+  line_65 : text_words (codes "li r9 " ++ (decimal (2 ^ z - 1) ++ 10 ∷ rest 65)) ≡ words Set (Register 9 ∷ Number (2 ^ z - 1) ∷ []) ∷ text_words (rest 65)
+  line_65 = number_line Set (Register 9 ∷ Number (2 ^ z - 1) ∷ []) (codes "li r9 ") (2 ^ z - 1) (rest 65) (let few = places_small in (omega arith, (omega arith, tt))) (rw (decimal_digit 9 (omega arith)) refl)
 
-  line_7 : text_words (codes "addi r11 r9 " ++ (decimal (8 + 2 ^ z) ++ 10 ∷ rest 7)) ≡ words AddWord (Register 11 ∷ Register 9 ∷ Number (8 + 2 ^ z) ∷ []) ∷ text_words (rest 7)
-  line_7 = number_line AddWord (Register 11 ∷ Register 9 ∷ Number (8 + 2 ^ z) ∷ []) (codes "addi r11 r9 ") (8 + 2 ^ z) (rest 7) (let few = places_small in (omega arith, (omega arith, (omega arith, tt)))) (rw (decimal_eleven, decimal_digit 9 (omega arith)) refl)
+  line_68 : text_words (codes "addi r11 r9 " ++ (decimal (8 + 2 ^ z) ++ 10 ∷ rest 68)) ≡ words AddWord (Register 11 ∷ Register 9 ∷ Number (8 + 2 ^ z) ∷ []) ∷ text_words (rest 68)
+  line_68 = number_line AddWord (Register 11 ∷ Register 9 ∷ Number (8 + 2 ^ z) ∷ []) (codes "addi r11 r9 ") (8 + 2 ^ z) (rest 68) (let few = places_small in (omega arith, (omega arith, (omega arith, tt)))) (rw (decimal_eleven, decimal_digit 9 (omega arith)) refl)
 
-  line_8 : text_words (codes "addi r6 r1 " ++ (decimal (7 + 2 * 2 ^ z) ++ 10 ∷ rest 8)) ≡ words AddWord (Register 6 ∷ Register 1 ∷ Number (7 + 2 * 2 ^ z) ∷ []) ∷ text_words (rest 8)
-  line_8 = number_line AddWord (Register 6 ∷ Register 1 ∷ Number (7 + 2 * 2 ^ z) ∷ []) (codes "addi r6 r1 ") (7 + 2 * 2 ^ z) (rest 8) (let few = places_small in (omega arith, (omega arith, (omega arith, tt)))) (rw (decimal_digit 6 (omega arith), decimal_digit 1 (omega arith)) refl)
+  line_82 : text_words (codes "addi r6 r1 " ++ (decimal (7 + 2 * 2 ^ z) ++ 10 ∷ rest 82)) ≡ words AddWord (Register 6 ∷ Register 1 ∷ Number (7 + 2 * 2 ^ z) ∷ []) ∷ text_words (rest 82)
+  line_82 = number_line AddWord (Register 6 ∷ Register 1 ∷ Number (7 + 2 * 2 ^ z) ∷ []) (codes "addi r6 r1 ") (7 + 2 * 2 ^ z) (rest 82) (let few = places_small in (omega arith, (omega arith, (omega arith, tt)))) (rw (decimal_digit 6 (omega arith), decimal_digit 1 (omega arith)) refl)
 
   abbrev all_lines : Lines
-  all_lines = text_words (codes "pid r1\naddi r1 r1 1\nnp r2\nli r3 1") ++ (words Set (Register 4 ∷ Number (2 ^ z) ∷ []) ∷ (words Set (Register 5 ∷ Number rounds ∷ []) ∷ text_words (codes "li r15 4294967295\nins:\nli r6 0\nld r7 r6\nfence\nslt r8 r7 r4\njz r8 ins\nfaa r7 r6 r3\nfence\nslt r8 r7 r4\njnz r8 put\nfaa r7 r6 r15\nfence\njmp ins\nput:\nli r6 2\nfaa r7 r6 r3\nfence") ++ (words ShiftRight (Register 8 ∷ Register 7 ∷ Bits z ∷ []) ∷ text_words (codes "add r8 r8 r8") ++ (words Set (Register 9 ∷ Number (2 ^ z - 1) ∷ []) ∷ text_words (codes "and r9 r7 r9\naddi r10 r9 8") ++ (words AddWord (Register 11 ∷ Register 9 ∷ Number (8 + 2 ^ z) ∷ []) ∷ text_words (codes "turn1:\nld r12 r10\nfence\nseq r13 r12 r8\njz r13 turn1\nst r11 r1\nfence\naddi r8 r8 1\nst r10 r8\nfence\nli r6 1\nfaa r7 r6 r3\nfence\ndel:\nli r6 1\nld r7 r6\nfence\nsub r8 r7 r3\nslt r8 r8 r4\njz r8 del\nfaa r7 r6 r15\nfence\nsub r8 r7 r3\nslt r8 r8 r4\njnz r8 take\nfaa r7 r6 r3\nfence\njmp del\ntake:\nli r6 3\nfaa r7 r6 r3\nfence") ++ (words ShiftRight (Register 8 ∷ Register 7 ∷ Bits z ∷ []) ∷ text_words (codes "add r8 r8 r8\naddi r8 r8 1") ++ (words Set (Register 9 ∷ Number (2 ^ z - 1) ∷ []) ∷ text_words (codes "and r9 r7 r9\naddi r10 r9 8") ++ (words AddWord (Register 11 ∷ Register 9 ∷ Number (8 + 2 ^ z) ∷ []) ∷ text_words (codes "turn2:\nld r12 r10\nfence\nseq r13 r12 r8\njz r13 turn2\nld r14 r11\nfence\naddi r8 r8 1\nst r10 r8\nfence\nli r6 0\nfaa r7 r6 r15\nfence") ++ (words AddWord (Register 6 ∷ Register 1 ∷ Number (7 + 2 * 2 ^ z) ∷ []) ∷ text_words (rest 8))))))))))
+  all_lines = words_from 0 4 lines ++ (words Set (Register 4 ∷ Number (2 ^ z) ∷ []) ∷ (words Set (Register 5 ∷ Number rounds ∷ []) ∷ words_from 6 18 lines ++ (words ShiftRight (Register 8 ∷ Register 7 ∷ Bits z ∷ []) ∷ words_from 25 1 lines ++ (words Set (Register 9 ∷ Number (2 ^ z - 1) ∷ []) ∷ words_from 27 2 lines ++ (words AddWord (Register 11 ∷ Register 9 ∷ Number (8 + 2 ^ z) ∷ []) ∷ words_from 30 32 lines ++ (words ShiftRight (Register 8 ∷ Register 7 ∷ Bits z ∷ []) ∷ words_from 63 2 lines ++ (words Set (Register 9 ∷ Number (2 ^ z - 1) ∷ []) ∷ words_from 66 2 lines ++ (words AddWord (Register 11 ∷ Register 9 ∷ Number (8 + 2 ^ z) ∷ []) ∷ words_from 69 13 lines ++ (words AddWord (Register 6 ∷ Register 1 ∷ Number (7 + 2 * 2 ^ z) ∷ []) ∷ text_words (rest 82))))))))))
 
   lines_are : text_words (queue_text z rounds) ≡ all_lines
-  lines_are = ap (λ ls. text_words (codes "pid r1\naddi r1 r1 1\nnp r2\nli r3 1") ++ ls) (line_0 ∙ ap (λ ls. words Set (Register 4 ∷ Number (2 ^ z) ∷ []) ∷ ls) ((line_1 ∙ ap (λ ls. words Set (Register 5 ∷ Number rounds ∷ []) ∷ ls) (ap (λ ls. text_words (codes "li r15 4294967295\nins:\nli r6 0\nld r7 r6\nfence\nslt r8 r7 r4\njz r8 ins\nfaa r7 r6 r3\nfence\nslt r8 r7 r4\njnz r8 put\nfaa r7 r6 r15\nfence\njmp ins\nput:\nli r6 2\nfaa r7 r6 r3\nfence") ++ ls) (line_2 ∙ ap (λ ls. words ShiftRight (Register 8 ∷ Register 7 ∷ Bits z ∷ []) ∷ ls) (ap (λ ls. text_words (codes "add r8 r8 r8") ++ ls) (line_3 ∙ ap (λ ls. words Set (Register 9 ∷ Number (2 ^ z - 1) ∷ []) ∷ ls) (ap (λ ls. text_words (codes "and r9 r7 r9\naddi r10 r9 8") ++ ls) (line_4 ∙ ap (λ ls. words AddWord (Register 11 ∷ Register 9 ∷ Number (8 + 2 ^ z) ∷ []) ∷ ls) (ap (λ ls. text_words (codes "turn1:\nld r12 r10\nfence\nseq r13 r12 r8\njz r13 turn1\nst r11 r1\nfence\naddi r8 r8 1\nst r10 r8\nfence\nli r6 1\nfaa r7 r6 r3\nfence\ndel:\nli r6 1\nld r7 r6\nfence\nsub r8 r7 r3\nslt r8 r8 r4\njz r8 del\nfaa r7 r6 r15\nfence\nsub r8 r7 r3\nslt r8 r8 r4\njnz r8 take\nfaa r7 r6 r3\nfence\njmp del\ntake:\nli r6 3\nfaa r7 r6 r3\nfence") ++ ls) (line_5 ∙ ap (λ ls. words ShiftRight (Register 8 ∷ Register 7 ∷ Bits z ∷ []) ∷ ls) (ap (λ ls. text_words (codes "add r8 r8 r8\naddi r8 r8 1") ++ ls) (line_6 ∙ ap (λ ls. words Set (Register 9 ∷ Number (2 ^ z - 1) ∷ []) ∷ ls) (ap (λ ls. text_words (codes "and r9 r7 r9\naddi r10 r9 8") ++ ls) (line_7 ∙ ap (λ ls. words AddWord (Register 11 ∷ Register 9 ∷ Number (8 + 2 ^ z) ∷ []) ∷ ls) (ap (λ ls. text_words (codes "turn2:\nld r12 r10\nfence\nseq r13 r12 r8\njz r13 turn2\nld r14 r11\nfence\naddi r8 r8 1\nst r10 r8\nfence\nli r6 0\nfaa r7 r6 r15\nfence") ++ ls) line_8))))))))))))))))
+  lines_are = ap (λ ls. words_from 0 4 lines ++ ls) (line_4 ∙ ap (λ ls. words Set (Register 4 ∷ Number (2 ^ z) ∷ []) ∷ ls) ((line_5 ∙ ap (λ ls. words Set (Register 5 ∷ Number rounds ∷ []) ∷ ls) (ap (λ ls. words_from 6 18 lines ++ ls) (line_24 ∙ ap (λ ls. words ShiftRight (Register 8 ∷ Register 7 ∷ Bits z ∷ []) ∷ ls) (ap (λ ls. words_from 25 1 lines ++ ls) (line_26 ∙ ap (λ ls. words Set (Register 9 ∷ Number (2 ^ z - 1) ∷ []) ∷ ls) (ap (λ ls. words_from 27 2 lines ++ ls) (line_29 ∙ ap (λ ls. words AddWord (Register 11 ∷ Register 9 ∷ Number (8 + 2 ^ z) ∷ []) ∷ ls) (ap (λ ls. words_from 30 32 lines ++ ls) (line_62 ∙ ap (λ ls. words ShiftRight (Register 8 ∷ Register 7 ∷ Bits z ∷ []) ∷ ls) (ap (λ ls. words_from 63 2 lines ++ ls) (line_65 ∙ ap (λ ls. words Set (Register 9 ∷ Number (2 ^ z - 1) ∷ []) ∷ ls) (ap (λ ls. words_from 66 2 lines ++ ls) (line_68 ∙ ap (λ ls. words AddWord (Register 11 ∷ Register 9 ∷ Number (8 + 2 ^ z) ∷ []) ∷ ls) (ap (λ ls. words_from 69 13 lines ++ ls) line_82))))))))))))))))
 
   instructions : AreInstructions (label_pc all_lines) (statements all_lines) (queue z rounds)
   instructions = (

@@ -8,25 +8,28 @@ use Rattle.ultra_asm.specs.Labels.{label_pc}
 use Rattle.ultra_asm.specs.ProgramText.{AreInstructions, statements, AreLinesOf, IsProgramText}
 use Rattle.ultra_asm.proofs.Spelled.{operands_back}
 use Rattle.ultra_colib.specs.ReadersWriters.{readers_writers}
-use Rattle.ultra_colib.specs.Texts.{text_with_numbers, rw_pieces, rw_numbers, rw_text}
-use Rattle.ultra_colib.proofs.Reading.{Lines, words, number_line, labels_of}
+use Rattle.ultra_colib.specs.Texts.{text_of_lines, rw_lines, rw_text}
+use Rattle.ultra_colib.proofs.Reading.{Lines, words, words_from, number_line, labels_of}
 
 module _ (writers : ℕ) (writers_small : writers < 2 ^ 32) (rounds : ℕ) (rounds_small : rounds < 2 ^ 32) where
-  -- the text behind the line with number i
+  abbrev lines : List (List ℕ)
+  lines = rw_lines writers rounds
+
+  -- the text behind line i
   abbrev rest : ℕ → List ℕ
-  rest i = drop 1 (text_with_numbers (drop (i + 1) rw_pieces) (drop (i + 1) (rw_numbers writers rounds)))
+  rest i = text_of_lines (drop (i + 1) lines)
 
-  line_0 : text_words (codes "li r5 " ++ (decimal rounds ++ 10 ∷ rest 0)) ≡ words Set (Register 5 ∷ Number rounds ∷ []) ∷ text_words (rest 0)
-  line_0 = number_line Set (Register 5 ∷ Number rounds ∷ []) (codes "li r5 ") rounds (rest 0) (omega arith, (omega arith, tt)) (rw (decimal_digit 5 (omega arith)) refl)
+  line_4 : text_words (codes "li r5 " ++ (decimal rounds ++ 10 ∷ rest 4)) ≡ words Set (Register 5 ∷ Number rounds ∷ []) ∷ text_words (rest 4)
+  line_4 = number_line Set (Register 5 ∷ Number rounds ∷ []) (codes "li r5 ") rounds (rest 4) (omega arith, (omega arith, tt)) (rw (decimal_digit 5 (omega arith)) refl)
 
-  line_1 : text_words (codes "li r6 " ++ (decimal writers ++ 10 ∷ rest 1)) ≡ words Set (Register 6 ∷ Number writers ∷ []) ∷ text_words (rest 1)
-  line_1 = number_line Set (Register 6 ∷ Number writers ∷ []) (codes "li r6 ") writers (rest 1) (omega arith, (omega arith, tt)) (rw (decimal_digit 6 (omega arith)) refl)
+  line_5 : text_words (codes "li r6 " ++ (decimal writers ++ 10 ∷ rest 5)) ≡ words Set (Register 6 ∷ Number writers ∷ []) ∷ text_words (rest 5)
+  line_5 = number_line Set (Register 6 ∷ Number writers ∷ []) (codes "li r6 ") writers (rest 5) (omega arith, (omega arith, tt)) (rw (decimal_digit 6 (omega arith)) refl)
 
   abbrev all_lines : Lines
-  all_lines = text_words (codes "pid r1\naddi r2 r1 8\nli r3 1\nli r4 65536") ++ (words Set (Register 5 ∷ Number rounds ∷ []) ∷ (words Set (Register 6 ∷ Number writers ∷ []) ∷ text_words (rest 1)))
+  all_lines = words_from 0 4 lines ++ (words Set (Register 5 ∷ Number rounds ∷ []) ∷ (words Set (Register 6 ∷ Number writers ∷ []) ∷ text_words (rest 5)))
 
   lines_are : text_words (rw_text writers rounds) ≡ all_lines
-  lines_are = ap (λ ls. text_words (codes "pid r1\naddi r2 r1 8\nli r3 1\nli r4 65536") ++ ls) (line_0 ∙ ap (λ ls. words Set (Register 5 ∷ Number rounds ∷ []) ∷ ls) (line_1))
+  lines_are = ap (λ ls. words_from 0 4 lines ++ ls) (line_4 ∙ ap (λ ls. words Set (Register 5 ∷ Number rounds ∷ []) ∷ ls) (line_5))
 
   instructions : AreInstructions (label_pc all_lines) (statements all_lines) (readers_writers writers rounds)
   instructions = (

@@ -1,10 +1,10 @@
 -- texts into which numbers are put are read as their programs
-use Rattle.std.proofs.Common.{◌≡◌, ℕ, zero, suc, ◌+◌, ◌<◌, Bool, true, false, not, ◌&&◌, List, [], ◌∷◌, ◌++◌, map, length, codes, decimal, Option, Some, None, IfSome, refl, sym, ◌∙◌, ap, subst, append_assoc, append-nil, arith}
+use Rattle.std.proofs.Common.{◌≡◌, ℕ, zero, suc, ◌+◌, ◌<◌, Bool, true, false, not, ◌&&◌, List, [], ◌∷◌, ◌++◌, map, length, take, drop, codes, decimal, Option, Some, None, IfSome, refl, sym, ◌∙◌, ap, subst, append_assoc, append-nil, arith}
 use Rattle.std.proofs.lemmas.Bool.{and_parts}
 use Rattle.std.proofs.lemmas.Fmt.{decimal_digit, decimal_step}
 use Rattle.ultra_asm.specs.declared.instruction.Mnemonic.{Mnemonic}
 use Rattle.ultra_asm.specs.declared.instruction.Operand.{Operand}
-use Rattle.ultra_asm.specs.Words.{text_words, before_colon, is_name}
+use Rattle.ultra_asm.specs.Words.{line_words, text_words, before_colon, is_name}
 use Rattle.ultra_asm.specs.Labels.{is_defined_before}
 use Rattle.ultra_asm.specs.Instruction.{mnemonic_word}
 use Rattle.ultra_asm.specs.ProgramText.{IsNewLabel, IsLabelled, line_at}
@@ -18,6 +18,10 @@ Lines = List (List (List ℕ))
 -- the words of an instruction
 abbrev pub words : Mnemonic → List Operand → List (List ℕ)
 words m os = mnemonic_word m ∷ map operand_text os
+
+-- the words of n lines, from line i on
+abbrev pub words_from : ℕ → ℕ → List (List ℕ) → Lines
+words_from i n lines = map line_words (take n (drop i lines))
 
 -- a line that ends with a number, and the lines after it
 pub number_line : (m : Mnemonic) (os : List Operand) (line : List ℕ) (n : ℕ) (rest : List ℕ) → AreWritable os → mnemonic_word m ++ operands_text os ≡ line ++ (decimal n ++ []) → text_words (line ++ (decimal n ++ 10 ∷ rest)) ≡ words m os ∷ text_words rest

@@ -2,85 +2,248 @@
 -- this project's profile
 use Rattle.std.specs.Prelude.{ℕ, ◌+◌, ◌-◌, ◌*◌, ◌^◌, List, [], ◌∷◌, ◌++◌, codes, decimal}
 
--- the pieces of a text, with numbers between them
-abbrev pub text_with_numbers : List (List ℕ) → List ℕ → List ℕ
-text_with_numbers [] ns = []
-text_with_numbers (p ∷ ps) [] = p ++ text_with_numbers ps []
-text_with_numbers (p ∷ ps) (n ∷ ns) = p ++ (decimal n ++ text_with_numbers ps ns)
+-- the text of these lines, each of which byte 10 ends
+abbrev pub text_of_lines : List (List ℕ) → List ℕ
+text_of_lines [] = []
+text_of_lines (line ∷ lines) = line ++ 10 ∷ text_of_lines lines
 
 -- the gate: `bound` processing elements at most are inside at once, `rounds` times each
-abbrev pub gate_pieces : List (List ℕ)
-gate_pieces =
-    codes "pid r1\naddi r1 r1 8\nli r3 1\nli r4 "
-    ∷ codes "\nli r5 "
-    ∷ codes "\nli r8 4294967295\nagain:\nld r6 r0\nfence\nslt r7 r6 r4\njz r7 again\nfaa r6 r0 r3\nfence\nslt r7 r6 r4\njnz r7 inside\nfaa r6 r0 r8\nfence\njmp again\ninside:\nst r1 r3\nfence\nst r1 r0\nfence\nfaa r6 r0 r8\nfence\nsub r5 r5 r3\njnz r5 again\nhalt\n"
+abbrev pub gate_lines : ℕ → ℕ → List (List ℕ)
+gate_lines bound rounds =
+    codes "pid r1"
+    ∷ codes "addi r1 r1 8"
+    ∷ codes "li r3 1"
+    ∷ (codes "li r4 " ++ decimal bound)
+    ∷ (codes "li r5 " ++ decimal rounds)
+    ∷ codes "li r8 4294967295"
+    ∷ codes "again:"
+    ∷ codes "ld r6 r0"
+    ∷ codes "fence"
+    ∷ codes "slt r7 r6 r4"
+    ∷ codes "jz r7 again"
+    ∷ codes "faa r6 r0 r3"
+    ∷ codes "fence"
+    ∷ codes "slt r7 r6 r4"
+    ∷ codes "jnz r7 inside"
+    ∷ codes "faa r6 r0 r8"
+    ∷ codes "fence"
+    ∷ codes "jmp again"
+    ∷ codes "inside:"
+    ∷ codes "st r1 r3"
+    ∷ codes "fence"
+    ∷ codes "st r1 r0"
+    ∷ codes "fence"
+    ∷ codes "faa r6 r0 r8"
+    ∷ codes "fence"
+    ∷ codes "sub r5 r5 r3"
+    ∷ codes "jnz r5 again"
+    ∷ codes "halt"
     ∷ []
-
-abbrev pub gate_numbers : ℕ → ℕ → List ℕ
-gate_numbers bound rounds = bound ∷ rounds ∷ []
 
 abbrev pub gate_text : ℕ → ℕ → List ℕ
-gate_text bound rounds = text_with_numbers gate_pieces (gate_numbers bound rounds)
+gate_text bound rounds = text_of_lines (gate_lines bound rounds)
 
 -- readers and writers: the first `writers` processing elements write, the others read
-abbrev pub rw_pieces : List (List ℕ)
-rw_pieces =
-    codes "pid r1\naddi r2 r1 8\nli r3 1\nli r4 65536\nli r5 "
-    ∷ codes "\nli r6 "
-    ∷ codes "\nli r10 4294967295\nli r11 2\nsub r12 r0 r4\nslt r7 r1 r6\njnz r7 write\nread:\nfaa r8 r0 r3\nfence\nslt r9 r8 r4\njnz r9 reading\nfaa r8 r0 r10\nfence\njmp read\nreading:\nst r2 r3\nfence\nst r2 r0\nfence\nfaa r8 r0 r10\nfence\nsub r5 r5 r3\njnz r5 read\nhalt\nwrite:\nfaa r8 r0 r4\nfence\njz r8 writing\nfaa r8 r0 r12\nfence\njmp write\nwriting:\nst r2 r11\nfence\nst r2 r0\nfence\nfaa r8 r0 r12\nfence\nsub r5 r5 r3\njnz r5 write\nhalt\n"
+abbrev pub rw_lines : ℕ → ℕ → List (List ℕ)
+rw_lines writers rounds =
+    codes "pid r1"
+    ∷ codes "addi r2 r1 8"
+    ∷ codes "li r3 1"
+    ∷ codes "li r4 65536"
+    ∷ (codes "li r5 " ++ decimal rounds)
+    ∷ (codes "li r6 " ++ decimal writers)
+    ∷ codes "li r10 4294967295"
+    ∷ codes "li r11 2"
+    ∷ codes "sub r12 r0 r4"
+    ∷ codes "slt r7 r1 r6"
+    ∷ codes "jnz r7 write"
+    ∷ codes "read:"
+    ∷ codes "faa r8 r0 r3"
+    ∷ codes "fence"
+    ∷ codes "slt r9 r8 r4"
+    ∷ codes "jnz r9 reading"
+    ∷ codes "faa r8 r0 r10"
+    ∷ codes "fence"
+    ∷ codes "jmp read"
+    ∷ codes "reading:"
+    ∷ codes "st r2 r3"
+    ∷ codes "fence"
+    ∷ codes "st r2 r0"
+    ∷ codes "fence"
+    ∷ codes "faa r8 r0 r10"
+    ∷ codes "fence"
+    ∷ codes "sub r5 r5 r3"
+    ∷ codes "jnz r5 read"
+    ∷ codes "halt"
+    ∷ codes "write:"
+    ∷ codes "faa r8 r0 r4"
+    ∷ codes "fence"
+    ∷ codes "jz r8 writing"
+    ∷ codes "faa r8 r0 r12"
+    ∷ codes "fence"
+    ∷ codes "jmp write"
+    ∷ codes "writing:"
+    ∷ codes "st r2 r11"
+    ∷ codes "fence"
+    ∷ codes "st r2 r0"
+    ∷ codes "fence"
+    ∷ codes "faa r8 r0 r12"
+    ∷ codes "fence"
+    ∷ codes "sub r5 r5 r3"
+    ∷ codes "jnz r5 write"
+    ∷ codes "halt"
     ∷ []
-
-abbrev pub rw_numbers : ℕ → ℕ → List ℕ
-rw_numbers writers rounds = rounds ∷ writers ∷ []
 
 abbrev pub rw_text : ℕ → ℕ → List ℕ
-rw_text writers rounds = text_with_numbers rw_pieces (rw_numbers writers rounds)
+rw_text writers rounds = text_of_lines (rw_lines writers rounds)
 
 -- the barrier
-abbrev pub barrier_pieces : List (List ℕ)
-barrier_pieces =
-    codes "pid r1\naddi r2 r1 8\nnp r3\nadd r4 r2 r3\nli r5 1\nsub r6 r3 r5\nli r7 0\nli r8 "
-    ∷ codes "\nround:\naddi r7 r7 1\nst r2 r7\nfence\nfaa r9 r0 r5\nfence\nand r10 r9 r6\nsub r9 r9 r10\nadd r9 r9 r3\nwait:\nld r10 r0\nfence\nslt r11 r10 r9\njnz r11 wait\nst r4 r7\nfence\nseq r11 r7 r8\njz r11 round\nhalt\n"
+abbrev pub barrier_lines : ℕ → List (List ℕ)
+barrier_lines rounds =
+    codes "pid r1"
+    ∷ codes "addi r2 r1 8"
+    ∷ codes "np r3"
+    ∷ codes "add r4 r2 r3"
+    ∷ codes "li r5 1"
+    ∷ codes "sub r6 r3 r5"
+    ∷ codes "li r7 0"
+    ∷ (codes "li r8 " ++ decimal rounds)
+    ∷ codes "round:"
+    ∷ codes "addi r7 r7 1"
+    ∷ codes "st r2 r7"
+    ∷ codes "fence"
+    ∷ codes "faa r9 r0 r5"
+    ∷ codes "fence"
+    ∷ codes "and r10 r9 r6"
+    ∷ codes "sub r9 r9 r10"
+    ∷ codes "add r9 r9 r3"
+    ∷ codes "wait:"
+    ∷ codes "ld r10 r0"
+    ∷ codes "fence"
+    ∷ codes "slt r11 r10 r9"
+    ∷ codes "jnz r11 wait"
+    ∷ codes "st r4 r7"
+    ∷ codes "fence"
+    ∷ codes "seq r11 r7 r8"
+    ∷ codes "jz r11 round"
+    ∷ codes "halt"
     ∷ []
-
-abbrev pub barrier_numbers : ℕ → List ℕ
-barrier_numbers rounds = rounds ∷ []
 
 abbrev pub barrier_text : ℕ → List ℕ
-barrier_text rounds = text_with_numbers barrier_pieces (barrier_numbers rounds)
+barrier_text rounds = text_of_lines (barrier_lines rounds)
+
+-- the queue, with these numbers in it
+abbrev pub queue_lines : ℕ → ℕ → ℕ → ℕ → ℕ → ℕ → List (List ℕ)
+queue_lines log_size rounds places last items results =
+    codes "pid r1"
+    ∷ codes "addi r1 r1 1"
+    ∷ codes "np r2"
+    ∷ codes "li r3 1"
+    ∷ (codes "li r4 " ++ decimal places)
+    ∷ (codes "li r5 " ++ decimal rounds)
+    ∷ codes "li r15 4294967295"
+    ∷ codes "ins:"
+    ∷ codes "li r6 0"
+    ∷ codes "ld r7 r6"
+    ∷ codes "fence"
+    ∷ codes "slt r8 r7 r4"
+    ∷ codes "jz r8 ins"
+    ∷ codes "faa r7 r6 r3"
+    ∷ codes "fence"
+    ∷ codes "slt r8 r7 r4"
+    ∷ codes "jnz r8 put"
+    ∷ codes "faa r7 r6 r15"
+    ∷ codes "fence"
+    ∷ codes "jmp ins"
+    ∷ codes "put:"
+    ∷ codes "li r6 2"
+    ∷ codes "faa r7 r6 r3"
+    ∷ codes "fence"
+    ∷ (codes "shr r8 r7 " ++ decimal log_size)
+    ∷ codes "add r8 r8 r8"
+    ∷ (codes "li r9 " ++ decimal last)
+    ∷ codes "and r9 r7 r9"
+    ∷ codes "addi r10 r9 8"
+    ∷ (codes "addi r11 r9 " ++ decimal items)
+    ∷ codes "turn1:"
+    ∷ codes "ld r12 r10"
+    ∷ codes "fence"
+    ∷ codes "seq r13 r12 r8"
+    ∷ codes "jz r13 turn1"
+    ∷ codes "st r11 r1"
+    ∷ codes "fence"
+    ∷ codes "addi r8 r8 1"
+    ∷ codes "st r10 r8"
+    ∷ codes "fence"
+    ∷ codes "li r6 1"
+    ∷ codes "faa r7 r6 r3"
+    ∷ codes "fence"
+    ∷ codes "del:"
+    ∷ codes "li r6 1"
+    ∷ codes "ld r7 r6"
+    ∷ codes "fence"
+    ∷ codes "sub r8 r7 r3"
+    ∷ codes "slt r8 r8 r4"
+    ∷ codes "jz r8 del"
+    ∷ codes "faa r7 r6 r15"
+    ∷ codes "fence"
+    ∷ codes "sub r8 r7 r3"
+    ∷ codes "slt r8 r8 r4"
+    ∷ codes "jnz r8 take"
+    ∷ codes "faa r7 r6 r3"
+    ∷ codes "fence"
+    ∷ codes "jmp del"
+    ∷ codes "take:"
+    ∷ codes "li r6 3"
+    ∷ codes "faa r7 r6 r3"
+    ∷ codes "fence"
+    ∷ (codes "shr r8 r7 " ++ decimal log_size)
+    ∷ codes "add r8 r8 r8"
+    ∷ codes "addi r8 r8 1"
+    ∷ (codes "li r9 " ++ decimal last)
+    ∷ codes "and r9 r7 r9"
+    ∷ codes "addi r10 r9 8"
+    ∷ (codes "addi r11 r9 " ++ decimal items)
+    ∷ codes "turn2:"
+    ∷ codes "ld r12 r10"
+    ∷ codes "fence"
+    ∷ codes "seq r13 r12 r8"
+    ∷ codes "jz r13 turn2"
+    ∷ codes "ld r14 r11"
+    ∷ codes "fence"
+    ∷ codes "addi r8 r8 1"
+    ∷ codes "st r10 r8"
+    ∷ codes "fence"
+    ∷ codes "li r6 0"
+    ∷ codes "faa r7 r6 r15"
+    ∷ codes "fence"
+    ∷ (codes "addi r6 r1 " ++ decimal results)
+    ∷ codes "st r6 r14"
+    ∷ codes "fence"
+    ∷ codes "add r1 r1 r2"
+    ∷ codes "sub r5 r5 r3"
+    ∷ codes "jnz r5 ins"
+    ∷ codes "halt"
+    ∷ []
 
 -- the queue with 2 ^ z places
-abbrev pub queue_pieces : List (List ℕ)
-queue_pieces =
-    codes "pid r1\naddi r1 r1 1\nnp r2\nli r3 1\nli r4 "
-    ∷ codes "\nli r5 "
-    ∷ codes "\nli r15 4294967295\nins:\nli r6 0\nld r7 r6\nfence\nslt r8 r7 r4\njz r8 ins\nfaa r7 r6 r3\nfence\nslt r8 r7 r4\njnz r8 put\nfaa r7 r6 r15\nfence\njmp ins\nput:\nli r6 2\nfaa r7 r6 r3\nfence\nshr r8 r7 "
-    ∷ codes "\nadd r8 r8 r8\nli r9 "
-    ∷ codes "\nand r9 r7 r9\naddi r10 r9 8\naddi r11 r9 "
-    ∷ codes "\nturn1:\nld r12 r10\nfence\nseq r13 r12 r8\njz r13 turn1\nst r11 r1\nfence\naddi r8 r8 1\nst r10 r8\nfence\nli r6 1\nfaa r7 r6 r3\nfence\ndel:\nli r6 1\nld r7 r6\nfence\nsub r8 r7 r3\nslt r8 r8 r4\njz r8 del\nfaa r7 r6 r15\nfence\nsub r8 r7 r3\nslt r8 r8 r4\njnz r8 take\nfaa r7 r6 r3\nfence\njmp del\ntake:\nli r6 3\nfaa r7 r6 r3\nfence\nshr r8 r7 "
-    ∷ codes "\nadd r8 r8 r8\naddi r8 r8 1\nli r9 "
-    ∷ codes "\nand r9 r7 r9\naddi r10 r9 8\naddi r11 r9 "
-    ∷ codes "\nturn2:\nld r12 r10\nfence\nseq r13 r12 r8\njz r13 turn2\nld r14 r11\nfence\naddi r8 r8 1\nst r10 r8\nfence\nli r6 0\nfaa r7 r6 r15\nfence\naddi r6 r1 "
-    ∷ codes "\nst r6 r14\nfence\nadd r1 r1 r2\nsub r5 r5 r3\njnz r5 ins\nhalt\n"
-    ∷ []
-
-abbrev pub queue_numbers : ℕ → ℕ → List ℕ
-queue_numbers z rounds =
-    (2 ^ z) ∷ rounds ∷ z ∷ (2 ^ z - 1) ∷ (8 + 2 ^ z) ∷ z ∷ (2 ^ z - 1) ∷ (8 + 2 ^ z)
-    ∷ (7 + 2 * 2 ^ z) ∷ []
-
 abbrev pub queue_text : ℕ → ℕ → List ℕ
-queue_text z rounds = text_with_numbers queue_pieces (queue_numbers z rounds)
+queue_text z rounds =
+    text_of_lines
+    (queue_lines z rounds (2 ^ z) (2 ^ z - 1) (8 + 2 ^ z) (7 + 2 * 2 ^ z))
 
 -- the ticket counter, from which each processing element draws `rounds` tickets
-abbrev pub tickets_pieces : List (List ℕ)
-tickets_pieces =
-    codes "li r2 1\nli r5 "
-    ∷ codes "\nagain:\nfaa r1 r0 r2\nfence\nsub r5 r5 r2\njnz r5 again\nhalt\n"
+abbrev pub tickets_lines : ℕ → List (List ℕ)
+tickets_lines rounds =
+    codes "li r2 1"
+    ∷ (codes "li r5 " ++ decimal rounds)
+    ∷ codes "again:"
+    ∷ codes "faa r1 r0 r2"
+    ∷ codes "fence"
+    ∷ codes "sub r5 r5 r2"
+    ∷ codes "jnz r5 again"
+    ∷ codes "halt"
     ∷ []
 
-abbrev pub tickets_numbers : ℕ → List ℕ
-tickets_numbers rounds = rounds ∷ []
-
 abbrev pub tickets_text : ℕ → List ℕ
-tickets_text rounds = text_with_numbers tickets_pieces (tickets_numbers rounds)
+tickets_text rounds = text_of_lines (tickets_lines rounds)
