@@ -8,7 +8,6 @@ pub mod InstructionLines
 pub mod Collecting
 pub mod FirstWords
 pub mod Lines
-pub mod Numerals
 pub mod InBuffer
 pub mod Operands
 pub mod Places

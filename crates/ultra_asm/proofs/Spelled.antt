@@ -1,57 +1,35 @@
 -- what is written for an operand is read as it again
-use Rattle.std.proofs.Common.{◌≡◌, ℕ, ◌+◌, ◌-◌, ◌<◌, ◌≤◌, ◌^◌, Bool, true, false, not, ◌&&◌, ◌||◌, List, [], ◌∷◌, ◌++◌, map, length, take, drop, get_or, codes, decimal, nat_lt, Option, Some, None, cond, refl, ◌∙◌, ap, inl, inr, arith, length-append}
+use Rattle.std.proofs.Common.{◌≡◌, ℕ, ◌+◌, ◌-◌, ◌<◌, ◌≤◌, ◌^◌, Bool, true, false, not, ◌||◌, List, [], ◌∷◌, ◌++◌, map, length, take, drop, get_or, codes, decimal, Option, Some, None, refl, ◌∙◌, ap, arith, length-append}
 use Rattle.std.specs.List.{list_all}
 use Rattle.std.specs.Int.{IsInRange}
 use Rattle.std.specs.Str.Parse.{AllDigits, digits_value}
-use Rattle.std.proofs.lemmas.Bool.{and_from, ne_eqb, eq-eqb, le-leb, lt-ltb, cond-true, cases_lt}
+use Rattle.std.proofs.lemmas.Bool.{and_from, eq-eqb, le-leb, lt-ltb, cond-true}
 use Rattle.std.proofs.lemmas.List.Folds.{list_all-append}
 use Rattle.std.proofs.lemmas.List.{take_at, get_or_at}
-use Rattle.std.proofs.lemmas.Fmt.{decimal_is_IsNumeral, decimal_digit, first_decimal, length-decimal-le, decimal_injective}
+use Rattle.std.proofs.lemmas.Fmt.{decimal_is_IsNumeral, length-decimal-le, decimal_injective}
 use Rattle.std.proofs.lemmas.Str.Parse.{digit_from_value}
 use Rattle.ultra_asm.specs.declared.instruction.Mnemonic.{Mnemonic}
 use Rattle.ultra_asm.specs.declared.instruction.Mnemonic.TheVariants.{Set, Add, AddWord, Subtract, And, ShiftRight, IsBelow, IsEqual, JumpIfZero, JumpIfNotZero, Jump, Number, Size, Load, Store, Faa, Swap, Fence, Halt}
 use Rattle.ultra_asm.specs.declared.instruction.Operand.{Operand}
 use Rattle.ultra_asm.specs.declared.instruction.Operand.TheVariants as operand
-use Rattle.ultra_asm.specs.Words.{is_letter, is_name_byte, is_name, before_colon, is_number, decimal_value, has_leading_zero, is_register, register_of, shift_of}
+use Rattle.ultra_asm.specs.Words.{is_letter, is_name_byte, is_name, before_colon, has_leading_zero, is_register, register_of, shift_of}
 use Rattle.ultra_asm.specs.Instruction.{mnemonic_word}
 use Rattle.ultra_asm.specs.ProgramText.{IsOperand, AreOperands}
 use Rattle.ultra_asm.specs.Listing.{label_text, operand_text, IsWritable, AreWritable}
-use Rattle.ultra_asm.proofs.Numerals.{number_is}
+use Rattle.ultra_io.proofs.Numerals.{no_leading_zero, is_number_back, number_back}
 use Rattle.ultra_asm.proofs.Cutting.{IsPlain, ArePlain, is_plain, digits_plain}
 
 -- ---- numbers
-found : (b : Bool) (m n : ℕ) → cond b (Some m) None ≡ Some n → b ≡ true
-found true m n h = refl
-found false m n h = absurd cc
-
-number_back : (n : ℕ) → n < 2 ^ 32 → decimal_value (decimal n) ≡ Some n
-number_back n small =
-    let (numeral, value) = decimal_is_IsNumeral n (omega arith) in
-    number_is (decimal n) numeral.0 numeral.1 (omega arith) ∙ ap Some value
-
-is_number_back : (n : ℕ) → n < 2 ^ 32 → is_number (decimal n) ≡ true
-is_number_back n small = found (is_number (decimal n)) (digits_value 10 (decimal n)) n (number_back n small)
-
 shift_back : (n : ℕ) → n < 32 → shift_of (decimal n) ≡ Some n
 shift_back n small =
     let value : digits_value 10 (decimal n) ≡ n = (decimal_is_IsNumeral n (omega arith)).1 in
     cond-true _ _ _ (and_from _ _ (is_number_back n (omega arith)) (rw value (lt-ltb n 32 small))) ∙ ap Some value
 
 -- ---- registers
-and_false : (b : Bool) → (b && false) ≡ false
-and_false true = refl
-and_false false = refl
-
-no_leading_zero : (n : ℕ) → n < 16 → has_leading_zero (decimal n) ≡ false
-no_leading_zero n small = elim (cases_lt 0 n) [
-  | inl more ↦ let apart : get_or (decimal n) 0 0 ≡ 48 → ⊥ = λ h. omega (arith, first_decimal n more (omega arith)) in rw (ne_eqb (get_or (decimal n) 0 0) 48 apart) (and_false (nat_lt 1 (length (decimal n))))
-  | inr none ↦ let zero_is : n ≡ 0 = omega arith in rw (zero_is, decimal_digit 0 (omega arith)) refl
-]
-
 register_back : (n : ℕ) → n < 16 → register_of (codes "r" ++ decimal n) ≡ Some n
 register_back n small =
     let value : digits_value 10 (decimal n) ≡ n = (decimal_is_IsNumeral n (omega arith)).1 in
-    let zero_free : not (has_leading_zero (decimal n)) ≡ true = ap not (no_leading_zero n small) in
+    let zero_free : not (has_leading_zero (decimal n)) ≡ true = ap not (no_leading_zero n (omega arith)) in
     cond-true (is_register (codes "r" ++ decimal n)) _ _ (and_from _ _ (and_from _ _ (and_from _ _ refl zero_free) (is_number_back n (omega arith))) (rw value (lt-ltb n 16 small))) ∙ ap Some value
 
 -- ---- labels

@@ -1,8 +1,8 @@
 -- lines and their words: names, numbers and registers; this project's profile
-use Rattle.std.specs.Prelude.{ℕ, ◌-◌, ◌^◌, Bool, not, ◌&&◌, ◌||◌, ◌==◌, List, length, filter, map, Option, Some, None, if◌then◌else◌, drop, take, nat_lt, nat_le, slice_index}
-use Rattle.std.specs.Str.{all_ascii_digits}
+use Rattle.std.specs.Prelude.{ℕ, ◌-◌, Bool, not, ◌&&◌, ◌||◌, ◌==◌, List, length, filter, map, Option, Some, None, if◌then◌else◌, drop, take, nat_lt, nat_le, slice_index}
 use Rattle.std.specs.Str.Parse.{digits_value}
 use Rattle.std.specs.List.{slice_split, before_first, list_all}
+pub use Rattle.ultra_io.specs.Decimal.{is_number, decimal_value, has_leading_zero}
 
 -- a blank, a tab, byte 13 or a comma
 abbrev pub is_separator : ℕ → Bool
@@ -47,17 +47,6 @@ abbrev pub before_colon : List ℕ → Option (List ℕ)
 before_colon w =
     if nat_lt 0 (length w) && (slice_index w (length w - 1) == 58)
     then Some (take (length w - 1) w) else None
-
--- a number is written as one decimal digit or more, and is below 2^32
-abbrev pub is_number : List ℕ → Bool
-is_number w = nat_lt 0 (length w) && all_ascii_digits w && nat_lt (digits_value 10 w) (2 ^ 32)
-
-abbrev pub decimal_value : List ℕ → Option ℕ
-decimal_value w = if is_number w then Some (digits_value 10 w) else None
-
--- a zero with more digits behind it
-abbrev pub has_leading_zero : List ℕ → Bool
-has_leading_zero w = nat_lt 1 (length w) && (slice_index w 0 == 48)
 
 -- a register is written as `r` and its number, from 0 to 15, without leading zero
 abbrev pub is_register : List ℕ → Bool

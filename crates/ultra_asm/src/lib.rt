@@ -17,8 +17,8 @@ use crate::words::first_words;
 pub use canonical::listing;
 use std::alloc::{AllocError, AllocFailed, Global};
 use thiserror::Error;
+pub use ultra_io::number_written;
 use ultra_isa::{MOST_INSTRUCTIONS, Program};
-pub use words::number_written;
 
 /// What is wrong in a program's text.
 #[derive(Clone, Copy, PartialEq, Eq, Debug, Drop, Error)]

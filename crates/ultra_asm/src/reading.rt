@@ -7,7 +7,8 @@ ghost use Rattle.ultra_asm.specs.Reading.{none_in, one_in, two_in, three_in, rea
 use crate::AsmFaultKind;
 use crate::instruction::Mnemonic;
 use crate::labels::{Labels, statement};
-use crate::words::{before_colon, is_name, number_written, register_named, shift_written};
+use crate::words::{before_colon, is_name, register_named, shift_written};
+use ultra_io::number_written;
 use ultra_isa::Instr;
 use ultra_msg::{Register, Shift, Word};
 

@@ -1,13 +1,13 @@
 //! The words of a line.
 
-ghost use Rattle.std.specs.Prelude.{◌≡◌, ◌-◌, map, take, position, IfOk, SomeIff};
+ghost use Rattle.std.specs.Prelude.{◌≡◌, map, take, position, IfOk};
 ghost use Rattle.std.specs.List.{before_first, list_all};
-ghost use Rattle.std.specs.Int.{IsInRange};
 ghost use Rattle.std.specs.Option.{option_copied};
-ghost use Rattle.ultra_asm.specs.Words.{is_separator, begins_comment, line_words, is_letter, is_name_byte, is_name, before_colon, decimal_value, register_of, shift_of};
+ghost use Rattle.ultra_asm.specs.Words.{is_separator, begins_comment, line_words, is_letter, is_name_byte, is_name, before_colon, register_of, shift_of};
 
 use std::alloc::{AllocError, Global};
-use ultra_msg::{Register, Shift, Word};
+use ultra_io::{number_written, plain_number};
+use ultra_msg::{Register, Shift};
 
 /// The most words of a line that are looked at: a label, the word of an instruction, three operands,
 /// and one word more, which is one too many.
@@ -103,10 +103,7 @@ pub fn register_named(word: &[u8]) -> Option<Register>
     let [b'r', digits @ ..] = word else {
         return None;
     };
-    if digits.len() > 1 && digits[0] == b'0' {
-        return None;
-    }
-    let index = number_written(digits)?;
+    let index = plain_number(digits)?;
     Register::new(u8::try_from(index).ok()?)
 }
 
@@ -116,30 +113,4 @@ pub fn shift_written(word: &[u8]) -> Option<Shift>
 {
     let bits = number_written(word)?;
     Shift::new(u8::try_from(bits).ok()?)
-}
-
-/// The number that one decimal digit or more write, if it is below `2^32`.
-pub fn number_written(word: &[u8]) -> Option<Word>
-    ensures { result ≡ decimal_value word.now }
-{
-    if word.is_empty() {
-        return None;
-    }
-    let mut value = 0u32;
-    for byte in word {
-        let ones = u32::from(digit(*byte)?);
-        value = value.checked_mul(10)?.checked_add(ones)?;
-    }
-    Some(value)
-}
-
-/// The value of a decimal digit.
-fn digit(byte: u8) -> Option<u8>
-    ensures { SomeIff result (IsInRange 48 57 byte) (byte - 48) }
-{
-    if byte.is_ascii_digit() {
-        Some(byte - b'0')
-    } else {
-        None
-    }
 }

@@ -2,3 +2,4 @@ pub mod Digits
 pub mod Writing
 pub mod WrittenBytes
 pub mod Pairs
+pub mod Numerals

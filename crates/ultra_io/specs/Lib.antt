@@ -2,3 +2,4 @@ pub mod Source
 pub mod Account
 pub mod TextBuffer
 pub mod FilledBytes
+pub mod Decimal

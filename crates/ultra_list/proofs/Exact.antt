@@ -17,8 +17,9 @@ use Rattle.ultra_model.specs.Text.{reply_text}
 use Rattle.ultra_model.specs.Words.{OfWord, GivesWord}
 use Rattle.ultra_serial_law.specs.declared.records.Entry.{Entry}
 use Rattle.ultra_list.specs.SerialText.{operation_text, list_entry_text, HasWords, BeginsWith}
-use Rattle.ultra_list.specs.Reading.{read_on, read_or, rest_after, is_not_digit, plain_number, number_at, numbers_at, load_at, words_at, operation_at, reply_at, end_at, entry_at}
-use Rattle.ultra_list.proofs.Numerals.{number_back, number_text}
+use Rattle.ultra_list.specs.Reading.{read_on, read_or, rest_after, is_not_digit, number_at, numbers_at, load_at, words_at, operation_at, reply_at, end_at, entry_at}
+use Rattle.ultra_io.specs.Decimal.{plain_number}
+use Rattle.ultra_io.proofs.Numerals.{plain_number_back, plain_number_text}
 
 -- ---- one part after the other
 then_is : {A B : Type 0} (o : Option A) (f : A → Option B) (a : A) (r : Option B) → o ≡ Some a → f a ≡ r → read_on o f ≡ r
@@ -79,7 +80,7 @@ number_at_back n rest small apart =
     let at = count_at ds rest (decimal_is_IsNumeral n (omega arith)).0.1 apart in
     ap (λ k. read_on (plain_number (take k text)) (λ m. Some (m, drop k text))) at
     ∙ (ap (λ w. read_on (plain_number w) (λ m. Some (m, drop (length ds) text))) (take-append_seam ds rest)
-    ∙ (ap (λ o. read_on o (λ m. Some (m, drop (length ds) text))) (number_back n small)
+    ∙ (ap (λ o. read_on o (λ m. Some (m, drop (length ds) text))) (plain_number_back n small)
     ∙ ap (λ r. Some (n, r)) (drop-append_seam ds rest)))
 
 pub number_at_sound : (text rest : List ℕ) (n : ℕ) → number_at text ≡ Some (n, rest) → (n < 2 ^ 32) × (text ≡ decimal n ++ rest)
@@ -87,7 +88,7 @@ number_at_sound text rest n h =
     let k = position_or_len is_not_digit text in
     let p = then_some (plain_number (take k text)) (λ m. Some (m, drop k text)) (n, rest) h in
     let m = p.0 in
-    let read = number_text (take k text) m p.1 in
+    let read = plain_number_text (take k text) m p.1 in
     let pair = some_same {A = ℕ × List ℕ} (m, drop k text) (n, rest) p.2 in
     let same : m ≡ n = ap (λ q. q.0) pair in
     let behind : drop k text ≡ rest = ap (λ q. q.1) pair in

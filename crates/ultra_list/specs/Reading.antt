@@ -1,13 +1,12 @@
 -- the parts of an entry at the start of a text, and the text after them
-use Rattle.std.specs.Prelude.{ℕ, ◌^◌, Bool, not, ◌&&◌, ◌==◌, List, [], ◌∷◌, length, Option, Some, None, if◌then◌else◌, codes, drop, take, nat_lt, nat_le, slice_index}
-use Rattle.std.specs.Str.{all_ascii_digits}
-use Rattle.std.specs.Str.Parse.{digits_value}
+use Rattle.std.specs.Prelude.{ℕ, Bool, not, ◌&&◌, ◌==◌, List, [], ◌∷◌, Option, Some, None, if◌then◌else◌, codes, drop, take, nat_le}
 use Rattle.std.specs.List.{position_or_len}
 use Rattle.ultra_msg.specs.declared.Op.{Op}
 use Rattle.ultra_msg.specs.declared.Op.TheVariants.{Load, Store, Faa, Swap}
 use Rattle.ultra_msg.specs.declared.Reply.{Reply}
 use Rattle.ultra_msg.specs.declared.Reply.TheVariants as reply
 use Rattle.ultra_serial_law.specs.declared.records.Entry.{Entry}
+use Rattle.ultra_io.specs.Decimal.{plain_number}
 
 -- the first part and then the second
 abbrev pub read_on : {A B : Type 0} → Option A → (A → Option B) → Option B
@@ -28,20 +27,6 @@ rest_after (b ∷ bs) (c ∷ cs) = if b == c then rest_after bs cs else None
 -- ---- numbers
 abbrev pub is_not_digit : ℕ → Bool
 is_not_digit b = not (nat_le 48 b && nat_le b 57)
-
--- the first of several digits is a zero
-abbrev pub has_leading_zero : List ℕ → Bool
-has_leading_zero w = nat_lt 1 (length w) && (slice_index w 0 == 48)
-
--- one digit or more that write a number below 2^32
-abbrev pub is_number : List ℕ → Bool
-is_number w = nat_lt 0 (length w) && all_ascii_digits w && nat_lt (digits_value 10 w) (2 ^ 32)
-
-abbrev pub decimal_value : List ℕ → Option ℕ
-decimal_value w = if is_number w then Some (digits_value 10 w) else None
-
-abbrev pub plain_number : List ℕ → Option ℕ
-plain_number w = if has_leading_zero w then None else decimal_value w
 
 abbrev pub number_at : List ℕ → Option (ℕ × List ℕ)
 number_at text =

@@ -1,10 +1,11 @@
 //! Numbers at the start of a text.
 
-ghost use Rattle.std.specs.Prelude.{◌≡◌, ◌-◌, SomeIff, position};
-ghost use Rattle.std.specs.Int.{IsInRange};
+ghost use Rattle.std.specs.Prelude.{◌≡◌, position};
 ghost use Rattle.std.specs.List.{position_or_len};
 ghost use Rattle.std.specs.Option.{option_map, option_copied};
-ghost use Rattle.ultra_list.specs.Reading.{is_not_digit, has_leading_zero, decimal_value, plain_number, number_at, numbers_at, rest_after};
+ghost use Rattle.ultra_list.specs.Reading.{is_not_digit, number_at, numbers_at, rest_after};
+
+use ultra_io::plain_number;
 
 /// The text after these bytes, if it begins with them.
 pub(crate) fn rest_after<'t>(bytes: &[u8], text: &'t [u8]) -> Option<&'t [u8]>
@@ -54,47 +55,4 @@ fn is_not_digit(byte: u8) -> bool
     ensures { result ≡ is_not_digit byte }
 {
     !matches!(byte, b'0'..=b'9')
-}
-
-/// The number that one decimal digit or more write without leading zero, if it is below `2^32`.
-fn plain_number(word: &[u8]) -> Option<u32>
-    ensures { result ≡ plain_number word.now }
-{
-    if has_leading_zero(word) {
-        return None;
-    }
-    number_written(word)
-}
-
-/// Whether the first of several bytes is a zero.
-fn has_leading_zero(word: &[u8]) -> bool
-    ensures { result ≡ has_leading_zero word.now }
-{
-    word.len() > 1 && word[0] == b'0'
-}
-
-/// The number that one decimal digit or more write, if it is below `2^32`.
-fn number_written(word: &[u8]) -> Option<u32>
-    ensures { result ≡ decimal_value word.now }
-{
-    if word.is_empty() {
-        return None;
-    }
-    let mut value = 0u32;
-    for byte in word {
-        let ones = u32::from(digit(*byte)?);
-        value = value.checked_mul(10)?.checked_add(ones)?;
-    }
-    Some(value)
-}
-
-/// The value of a decimal digit.
-fn digit(byte: u8) -> Option<u8>
-    ensures { SomeIff result (IsInRange 48 57 byte) (byte - 48) }
-{
-    if byte.is_ascii_digit() {
-        Some(byte - b'0')
-    } else {
-        None
-    }
 }

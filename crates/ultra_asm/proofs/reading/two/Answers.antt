@@ -1,6 +1,6 @@
 -- the operands are read in order, up to the first that is wrong
 use Rattle.std.proofs.Common.{◌≡◌, ◌∙◌, ℕ, ◌<◌, ◌≤◌, List, length, get_or, sym, ap, ap₂, arith, rules}
-use Rattle.std.specs.Prelude.{Result, Ok, Err}
+use Rattle.std.specs.Prelude.{Result, Err}
 use Rattle.ultra_asm.specs.declared.AsmFaultKind.{AsmFaultKind}
 use Rattle.ultra_asm.specs.Reading.{both_operands, two_in}
 use Rattle.ultra_asm.proofs.Counted.{two_are}

@@ -2,8 +2,8 @@ use Rattle.std.proofs.Common.{◌∙◌, ◌≤◌, ◌+◌, ◌^◌, ap, sym, t
 use Rattle.std.specs.Str.Parse.{digits_value}
 use Rattle.std.proofs.lemmas.List.{take_all}
 use Rattle.std.proofs.lemmas.Int.Digits.{digits_more}
-use Rattle.ultra_list.proofs.Numerals.{digit_below_ten, number_is, number_not_digit, number_too_large, value_more}
-use Rattle.ultra_list.proofs.number.number_written.Goals as goal
+use Rattle.ultra_io.proofs.Numerals.{digit_below_ten, number_is, number_not_digit, number_too_large, value_more}
+use Rattle.ultra_io.proofs.decimal.number_written.Goals as goal
 
 pub returns-in_err-digit : goal.returns-in_err-digit
 returns-in_err-digit c = c.from_residual.ensures ∙ sym (number_not_digit c.args.word.now c.loop-byte.byte-index c.loop-byte-test.true c.in_err-digit.ensures)

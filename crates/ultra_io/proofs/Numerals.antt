@@ -9,7 +9,7 @@ use Rattle.std.proofs.lemmas.Str.{digit_value_digit}
 use Rattle.std.proofs.lemmas.Str.Parse.{digit_from_value, digit_at, digits_value-take-le, numerals_by_value, tells_digits}
 use Rattle.std.proofs.lemmas.Int.Digits.{digits_value_more}
 use Rattle.std.proofs.lemmas.Fmt.{decimal_is_IsNumeral, decimal_digit, first_decimal, decimal-digits_value}
-use Rattle.ultra_list.specs.Reading.{has_leading_zero, is_number, decimal_value, plain_number}
+use Rattle.ultra_io.specs.Decimal.{has_leading_zero, is_number, decimal_value, plain_number}
 
 pub digit_below_ten : (c : ℕ) → IsInRange 48 57 c → digit_value c < 10
 digit_below_ten c h = omega (arith, digit_value_digit c h)
@@ -27,8 +27,11 @@ all_ascii [] h = refl
 all_ascii (c ∷ cs) h =
     let range = digit_from_value c h.0 in and_from _ _ (and_from _ _ (le-leb _ _ range.0) (le-leb _ _ range.1)) (all_ascii cs h.1)
 
+is_number_when : (w : List ℕ) → 0 < length w → AllDigits 10 w → digits_value 10 w < 2 ^ 32 → is_number w ≡ true
+is_number_when w some digits small = and_from _ _ (and_from _ _ (lt-ltb _ _ some) (all_ascii w digits)) (lt-ltb _ _ small)
+
 pub number_is : (w : List ℕ) → 0 < length w → AllDigits 10 w → digits_value 10 w < 2 ^ 32 → decimal_value w ≡ Some (digits_value 10 w)
-number_is w some digits small = cond-true (is_number w) _ _ (and_from _ _ (and_from _ _ (lt-ltb _ _ some) (all_ascii w digits)) (lt-ltb _ _ small))
+number_is w some digits small = cond-true (is_number w) _ _ (is_number_when w some digits small)
 
 number_none : (w : List ℕ) → ¬ (is_number w ≡ true) → decimal_value w ≡ None
 number_none w h = cond-false (is_number w) _ _ (false_from_ne_true _ h)
@@ -60,16 +63,25 @@ and_false : (b : Bool) → (b && false) ≡ false
 and_false true = refl
 and_false false = refl
 
-no_leading_zero : (n : ℕ) → n < 2 ^ 32 → has_leading_zero (decimal n) ≡ false
+pub no_leading_zero : (n : ℕ) → n < 2 ^ 32 → has_leading_zero (decimal n) ≡ false
 no_leading_zero n small = elim (cases_lt 0 n) [
   | inl more ↦ let apart : get_or (decimal n) 0 0 ≡ 48 → ⊥ = λ h. omega (arith, first_decimal n more (omega arith)) in rw (ne_eqb (get_or (decimal n) 0 0) 48 apart) (and_false (nat_lt 1 (length (decimal n))))
   | inr none ↦ let zero_is : n ≡ 0 = omega arith in rw (zero_is, decimal_digit 0 (omega arith)) refl
 ]
 
-pub number_back : (n : ℕ) → n < 2 ^ 32 → plain_number (decimal n) ≡ Some n
+pub is_number_back : (n : ℕ) → n < 2 ^ 32 → is_number (decimal n) ≡ true
+is_number_back n small =
+    let (numeral, value) = decimal_is_IsNumeral n (omega arith) in
+    is_number_when (decimal n) numeral.0 numeral.1 (omega arith)
+
+pub number_back : (n : ℕ) → n < 2 ^ 32 → decimal_value (decimal n) ≡ Some n
 number_back n small =
     let (numeral, value) = decimal_is_IsNumeral n (omega arith) in
-    cond-false (has_leading_zero (decimal n)) _ _ (no_leading_zero n small) ∙ (number_is (decimal n) numeral.0 numeral.1 (omega arith) ∙ ap Some value)
+    number_is (decimal n) numeral.0 numeral.1 (omega arith) ∙ ap Some value
+
+pub plain_number_back : (n : ℕ) → n < 2 ^ 32 → plain_number (decimal n) ≡ Some n
+plain_number_back n small =
+    cond-false (has_leading_zero (decimal n)) _ _ (no_leading_zero n small) ∙ number_back n small
 
 text_when : (w : List ℕ) (m : ℕ) (z t : Bool) → has_leading_zero w ≡ z → is_number w ≡ t → cond z None (cond t (Some (digits_value 10 w)) None) ≡ Some m → (m < 2 ^ 32) × (decimal m ≡ w)
 text_when w m true t z e h = absurd cc
@@ -84,5 +96,5 @@ text_when w m false true z e h =
     let spelled = decimal-digits_value (numerals_by_value _ tells_digits) w (are_digits w e) (some_digit w e) lead (omega (arith, small)) in
     (omega (arith, same, small), ap decimal (sym same) ∙ spelled)
 
-pub number_text : (w : List ℕ) (m : ℕ) → plain_number w ≡ Some m → (m < 2 ^ 32) × (decimal m ≡ w)
-number_text w m h = text_when w m (has_leading_zero w) (is_number w) refl refl h
+pub plain_number_text : (w : List ℕ) (m : ℕ) → plain_number w ≡ Some m → (m < 2 ^ 32) × (decimal m ≡ w)
+plain_number_text w m h = text_when w m (has_leading_zero w) (is_number w) refl refl h
