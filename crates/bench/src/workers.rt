@@ -56,7 +56,8 @@ fn make_anew<R: Threads + Wait + Sync>(
     Ok(blocks)
 }
 
-/// Makes `count` cycles, or as many as the machine can make, with threads that are kept over all of them, or are started anew for each.
+/// Makes `count` cycles, or as many as the machine can make, with threads that are kept over all of
+/// them, or are started anew for each.
 fn make_cycles<R: Threads + Wait + Sync>(
     rt: &R,
     alloc: Global,

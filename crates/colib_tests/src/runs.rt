@@ -84,9 +84,9 @@ const QUEUE: Case = Case::Queue {
 
 const BARRIER: Case = Case::Barrier { rounds: 1 };
 
-/// There are two processing elements. For a gate, and for readers and writers, cells 8 and 9 are the
-/// flags. For a barrier, cells 8 and 9 are the rounds begun, and 10 and 11 those finished. The results
-/// of a queue with two places are in the cells from 12 on.
+/// There are two processing elements. For a gate, and for readers and writers, cells 8 and 9 are
+/// the flags. For a barrier, cells 8 and 9 are the rounds begun, and 10 and 11 those finished. The
+/// results of a queue with two places are in the cells from 12 on.
 const RUNS: [Run<'static>; 8] = [
     // One is inside the gate, and the other waits.
     Run {

@@ -15,7 +15,8 @@ fn lists_as<R: AllocGlobal + Abort>(rt: &R, text: &str, wanted: &str) -> Result<
     Ok(())
 }
 
-/// Asserts that the text is assembled to a program with this listing, and the listing to one with the same.
+/// Asserts that the text is assembled to a program with this listing, and the listing to one with
+/// the same.
 fn check_listing<R: AllocGlobal + Abort>(rt: &R, text: &str, wanted: &str) -> Result<(), Fail> {
     lists_as(rt, text, wanted)?;
     lists_as(rt, wanted, wanted)
@@ -156,7 +157,8 @@ fn a_fault_of_the_sink_is_reported(rt: HostRuntime) -> Result<(), Fail> {
     Ok(())
 }
 
-/// Run with an allocator that refuses one of its calls, it reports that no memory was there, or gives the program.
+/// Run with an allocator that refuses one of its calls, it reports that no memory was there, or
+/// gives the program.
 #[test]
 fn refused_memory_is_reported(rt: HostRuntime) -> Result<(), Fail> {
     match assemble(rt.alloc(), "a: li r1 1\nb: jmp a\nc: halt ; end\nd:") {

@@ -38,7 +38,8 @@ struct Draws<'d> {
     count: Word,
 }
 
-/// The first draw is the third step of a processing element, and each further draw is four steps later.
+/// The first draw is the third step of a processing element, and each further draw is four steps
+/// later.
 const DRAWS: [Draws<'static>; 3] = [
     // One has drawn twice, then the other once.
     Draws {

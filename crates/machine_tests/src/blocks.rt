@@ -65,7 +65,8 @@ pub(crate) fn first_cell_is(rt: &impl Abort, blocks: &Blocks, word: Word) {
     assert_eq!(rt; memory_module(rt, blocks, 0).peek(0), Some(word));
 }
 
-/// In the last cycle of the worked tree of two levels every processing element gets its own value, and nothing is left to do.
+/// In the last cycle of the worked tree of two levels every processing element gets its own value,
+/// and nothing is left to do.
 pub(crate) fn tree_is_answered(rt: &impl Abort, blocks: &Blocks) {
     let answers = [
         answered_event(0, 3),

@@ -21,7 +21,8 @@ use ultra_msg::{Pe, Request};
 use ultra_switch::{ToMm, ToPe};
 use ultra_trace::run;
 
-/// The machine in which each processing element adds its number and 1 to cell 0, before its first cycle, in this partition.
+/// The machine in which each processing element adds its number and 1 to cell 0, before its first
+/// cycle, in this partition.
 pub(crate) fn additions(alloc: Global, stages: i64, partition: &[u8]) -> Result<Blocks, Fail> {
     let config = config(alloc, stages)?;
     let program = add_number(alloc)?;
@@ -72,7 +73,8 @@ fn by_kept<R: Threads + Wait + Sync + Abort, G: Gate + Sync>(
     Crew::cycles(rt, alloc, blocks, workers, gate, count)
 }
 
-/// Makes n cycles of the machine of one stage in this partition, by these workers, whose threads are kept.
+/// Makes n cycles of the machine of one stage in this partition, by these workers, whose threads
+/// are kept.
 fn cycles_by_kept<R: Threads + Wait + Sync + Abort + AllocGlobal, G: Gate + Sync>(
     rt: &R,
     partition: &[u8],
@@ -91,7 +93,9 @@ const TWO_BLOCKS: &[u8] = &[0, 1, 0, 1, 0];
 /// The five units of one stage in three blocks with work.
 const THREE_BLOCKS: &[u8] = &[0, 1, 2, 0, 1];
 
-/// Two blocks with work and two workers: in every half each worker waits for the other at the gate. A crew that makes all blocks in one thread keeps the contracts too, but fails this test. The turns run out, or, where it calls no gate, no flag is raised.
+/// Two blocks with work and two workers: in every half each worker waits for the other at the gate.
+/// A crew that makes all blocks in one thread keeps the contracts too, but fails this test. The
+/// turns run out, or, where it calls no gate, no flag is raised.
 #[test]
 fn gate_meets(rt: HostRuntime) -> Result<(), Fail> {
     let meeting = Meeting::new();
@@ -100,7 +104,8 @@ fn gate_meets(rt: HostRuntime) -> Result<(), Fail> {
     Ok(())
 }
 
-/// The same by workers whose threads are kept over all cycles. With all blocks in one of these threads it fails too: the turns run out.
+/// The same by workers whose threads are kept over all cycles. With all blocks in one of these
+/// threads it fails too: the turns run out.
 #[test]
 fn gate_meets_when_kept(rt: HostRuntime) -> Result<(), Fail> {
     let meeting = Meeting::new();
@@ -109,7 +114,8 @@ fn gate_meets_when_kept(rt: HostRuntime) -> Result<(), Fail> {
     Ok(())
 }
 
-/// Three blocks with work and three workers: in every half each worker waits for the two others at the gate. With two threads the turns run out, since one of them has two blocks.
+/// Three blocks with work and three workers: in every half each worker waits for the two others at
+/// the gate. With two threads the turns run out, since one of them has two blocks.
 #[test]
 fn three_meet(rt: HostRuntime) -> Result<(), Fail> {
     let meeting = MeetingOfThree::new();
@@ -233,7 +239,8 @@ fn same_ends(rt: &impl Abort, a: &Blocks, b: &Blocks, number: u32) {
     same_element(rt, element(rt, a, number), element(rt, b, number));
 }
 
-/// Two machines with as many stages hold the same everywhere, and the same happened in their last cycles.
+/// Two machines with as many stages hold the same everywhere, and the same happened in their last
+/// cycles.
 fn same_places(rt: &impl Abort, a: &Blocks, b: &Blocks) {
     assert_eq!(rt; a.done(), b.done());
     assert_eq!(rt; a.config().stages(), b.config().stages());
@@ -256,7 +263,8 @@ fn cause(stop: Option<Stop>) -> Option<(Pe, MachineFault)> {
     Some((stop.pe, stop.fault))
 }
 
-/// Ten cycles by these workers, beside the same machine in one block and without them: after each cycle both hold the same everywhere.
+/// Ten cycles by these workers, beside the same machine in one block and without them: after each
+/// cycle both hold the same everywhere.
 fn goes_as_alone<R: Threads + Wait + Sync + Abort + AllocGlobal, G: Gate + Sync>(
     rt: &R,
     partition: &[u8],
@@ -293,7 +301,8 @@ fn one_worker_late(rt: HostRuntime) -> Result<(), Fail> {
     goes_as_alone(&rt, &[0, 1, 2, 0, 1, 2, 0, 1, 2, 0, 1, 2], 3, &gate)
 }
 
-/// Ten cycles by these workers, whose threads are kept, beside the same machine in one block and without workers: after them both hold the same everywhere.
+/// Ten cycles by these workers, whose threads are kept, beside the same machine in one block and
+/// without workers: after them both hold the same everywhere.
 fn kept_go_as_alone<R: Threads + Wait + Sync + Abort + AllocGlobal, G: Gate + Sync>(
     rt: &R,
     workers: usize,
@@ -319,7 +328,8 @@ fn kept_workers(rt: HostRuntime) -> Result<(), Fail> {
     Ok(())
 }
 
-/// A single cycle, short enough to refuse each of its allocations in turn: the gate is called for each block in each half.
+/// A single cycle, short enough to refuse each of its allocations in turn: the gate is called for
+/// each block in each half.
 #[test]
 fn one_cycle_by_two(rt: HostRuntime) -> Result<(), Fail> {
     let gate = Counter::new();

@@ -1,4 +1,5 @@
-//! Machines that are cut on their way: in the worked run of a tree of two levels, after five of its ten cycles.
+//! Machines that are cut on their way: in the worked run of a tree of two levels, after five of its
+//! ten cycles.
 
 use crate::blocks::{run_blocks, tree_is_answered};
 use crate::machines::{ends_with, four_become_one, machine, one_becomes_four, run_to};
@@ -67,7 +68,8 @@ fn goes_on_in(rt: &(impl Abort + AllocGlobal), partition: &[u8]) -> Result<(), F
     }
 }
 
-/// With each allocation refused in turn, the machine goes on in blocks, or is given back and goes on from where it was.
+/// With each allocation refused in turn, the machine goes on in blocks, or is given back and goes
+/// on from where it was.
 #[test]
 fn a_machine_is_cut_or_given_back(rt: HostRuntime) -> Result<(), Fail> {
     match on_its_way(&rt)?.into_blocks(rt.alloc(), &[0, 0, 1, 1, 2, 2, 2, 2, 3, 3, 3, 3]) {

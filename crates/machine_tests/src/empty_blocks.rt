@@ -8,7 +8,8 @@ use std::test::Fail;
 use ultra_machine::Blocks;
 use ultra_trace::write_cycle;
 
-/// A partition of the 320 units of six stages: every third is in block 63, and all others are in block 0.
+/// A partition of the 320 units of six stages: every third is in block 63, and all others are in
+/// block 0.
 fn first_and_last(alloc: Global) -> Result<Vec<u8>, Fail> {
     let mut partition = Vec::new(alloc);
     for unit in 0..320u32 {

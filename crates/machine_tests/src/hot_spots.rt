@@ -1,5 +1,5 @@
-//! Requests of all processing elements to one cell, at each number of stages: the memory serves it by
-//! one act.
+//! Requests of all processing elements to one cell, at each number of stages: the memory serves it
+//! by one act.
 
 use crate::machines::{machine, run};
 use std::process::Abort;

@@ -1,5 +1,6 @@
-//! Tests of whole machines, in one block and in several, by one worker and by several. They use public calls alone, and
-//! are in a separate crate, so that no library is proved a second time with its tests.
+//! Tests of whole machines, in one block and in several, by one worker and by several. They use
+//! public calls alone, and are in a separate crate, so that no library is proved a second time with
+//! its tests.
 #![tactic(auto)]
 
 #[cfg(test)]

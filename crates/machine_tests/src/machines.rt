@@ -43,7 +43,8 @@ fn lane<'m>(rt: &impl Abort, machine: &'m Machine, stage: u32, position: u32) ->
     machine.lane(stage, position)
 }
 
-/// What is in a queue toward memory: requests of processing elements for a cell, and whether each has combined there.
+/// What is in a queue toward memory: requests of processing elements for a cell, and whether each
+/// has combined there.
 pub(crate) fn queue_is(rt: &impl Abort, lane: &ToMm, wanted: &[(Pe, u32, Op, bool)]) {
     assert_eq!(rt; lane.len(), wanted.len());
     for (index, &(pe, cell, op, combined)) in wanted.iter().enumerate() {
@@ -59,7 +60,8 @@ pub(crate) fn record_is(rt: &impl Abort, lane: &ToMm, wanted: WaitRecord) {
     assert_eq!(rt; lane.record(0), wanted);
 }
 
-/// The only reply in the queue toward the processing elements at a position of a stage: its processing element and its value.
+/// The only reply in the queue toward the processing elements at a position of a stage: its
+/// processing element and its value.
 fn reply_is(rt: &impl Abort, machine: &Machine, stage: u32, position: u32, wanted: (Pe, Word)) {
     assert!(rt; stage < machine.config().stages());
     assert!(rt; position < machine.config().net().size());

@@ -7,7 +7,8 @@ use std::sync::atomic::{AtomicU64, Ordering};
 use std::thread;
 use ultra_crew::{Gate, Half};
 
-/// A gate at which the workers of blocks 0, 1 and 2 meet. Each raises its flag to the number of the half, and waits for the others' flags, 10,000,000 turns at most.
+/// A gate at which the workers of blocks 0, 1 and 2 meet. Each raises its flag to the number of the
+/// half, and waits for the others' flags, 10,000,000 turns at most.
 #[derive(Drop)]
 pub(crate) struct MeetingOfThree {
     flags: [AtomicU64; 3],

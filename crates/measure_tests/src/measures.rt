@@ -53,7 +53,8 @@ const SEVEN_CYCLES_EACH: &str =
 2,4,4,8,1,2,16,14,18,quiet,0,4,1,0,0,1,7,7,7.000,0,0,12,0,0,0,1,0,0,0,4,1,4,1,4,0,0,0,2,1,1,1,1,,,,,,,,,,,,,,,,,,,,,,,,,,,,,,,,\n\
 ";
 
-/// Each processing element adds its number and 1 to cell 0, waits for the answer, and does so again.
+/// Each processing element adds its number and 1 to cell 0, waits for the answer, and does so
+/// again.
 fn add_twice(alloc: Global) -> Result<Program, Fail> {
     let (zero, number, old) = (register(0), register(2), register(3));
     program(vec![in alloc;

@@ -84,7 +84,8 @@ fn note_free(machine: &Machine, schedule: &mut Vec<Pe>) -> Result<(), Fail> {
     Ok(())
 }
 
-/// Makes a cycle of the machine, and puts its processing elements into the schedule. First come those whose requests acted, in serial order, then those that have no cell open, by number.
+/// Makes a cycle of the machine, and puts its processing elements into the schedule. First come
+/// those whose requests acted, in serial order, then those that have no cell open, by number.
 fn make_cycle(
     rt: &impl Abort,
     alloc: Global,
@@ -138,7 +139,8 @@ fn registers_look_like(rt: &impl Abort, processor: &Processor, para: &Para, pe: 
     }
 }
 
-/// The paracomputer has the machine's cells, and of each processing element without an open cell its registers.
+/// The paracomputer has the machine's cells, and of each processing element without an open cell
+/// its registers.
 fn looks_like(rt: &impl Abort, machine: &Machine, para: &Para) {
     for cell in 0..machine.config().all_cells() {
         cell_looks_like(rt, machine, para, cell);

@@ -1,4 +1,5 @@
-//! Tests of the paracomputer, over public calls alone. They are in a separate crate, so that the library isn't proved a second time with its tests.
+//! Tests of the paracomputer, over public calls alone. They are in a separate crate, so that the
+//! library isn't proved a second time with its tests.
 #![tactic(auto)]
 
 #[cfg(test)]

@@ -1,4 +1,5 @@
-//! Worked runs of the paracomputer with two processing elements, and programs that are careful or not.
+//! Worked runs of the paracomputer with two processing elements, and programs that are careful or
+//! not.
 
 use crate::beside::after;
 use crate::making::{program, register, settings};
@@ -24,7 +25,8 @@ fn check_cells(rt: &impl Abort, para: &Para, wanted: &[(Cell, Option<Word>)]) {
     }
 }
 
-/// Runs a program over a schedule, and looks into these registers and cells. Cell 1 holds 9 at first.
+/// Runs a program over a schedule, and looks into these registers and cells. Cell 1 holds 9 at
+/// first.
 fn run(
     rt: &(impl Abort + AllocGlobal),
     list: &[Instr],
@@ -41,7 +43,8 @@ fn run(
     Ok(())
 }
 
-/// Asserts which instruction of a program is the first without the fence that it should have. A program without one is careful.
+/// Asserts which instruction of a program is the first without the fence that it should have. A
+/// program without one is careful.
 fn judge(
     rt: &(impl Abort + AllocGlobal),
     list: &[Instr],
@@ -115,7 +118,8 @@ fn stores_and_loads(rt: HostRuntime) -> Result<(), Fail> {
     )
 }
 
-/// Processing element 0 refers to a cell that the memory doesn't have, and processing element 1 runs past the end of the program.
+/// Processing element 0 refers to a cell that the memory doesn't have, and processing element 1
+/// runs past the end of the program.
 #[test]
 fn faults(rt: HostRuntime) -> Result<(), Fail> {
     let (zero, one) = (register(0), register(1));

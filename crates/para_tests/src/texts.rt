@@ -1,4 +1,5 @@
-//! Schedules that are read and drawn, and the texts of runs. The expected texts are those of the reference program.
+//! Schedules that are read and drawn, and the texts of runs. The expected texts are those of the
+//! reference program.
 
 use crate::beside::is_schedule;
 use crate::making::{program, register, settings};

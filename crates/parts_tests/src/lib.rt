@@ -1,4 +1,5 @@
-//! Tests of the libraries, over their public calls. They are in a separate crate, so that no library is proved a second time with its tests.
+//! Tests of the libraries, over their public calls. They are in a separate crate, so that no
+//! library is proved a second time with its tests.
 #![tactic(auto)]
 
 #[cfg(test)]

@@ -30,7 +30,8 @@ impl<'r, R: Abort + AllocGlobal> MemorySink<'r, R> {
         }
     }
 
-    /// A sink that takes all that it is offered, and has memory for n bytes. An error says that memory was refused.
+    /// A sink that takes all that it is offered, and has memory for n bytes. An error says that
+    /// memory was refused.
     pub(crate) fn with_room(rt: &'r R, count: usize) -> Result<Self, Fail> {
         Ok(MemorySink {
             rt,

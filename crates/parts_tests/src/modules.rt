@@ -24,7 +24,8 @@ fn answers(rt: &impl Abort, module: &mut Module, now: Word, message: ReplyMessag
     assert!(rt; module.is_idle());
 }
 
-/// The module's side of the run `combined_pair`: the combined fetch-and-add of 2 finds 0 and leaves 2.
+/// The module's side of the run `combined_pair`: the combined fetch-and-add of 2 finds 0 and leaves
+/// 2.
 #[test]
 fn combined_pair(rt: HostRuntime) -> Result<(), Fail> {
     let request = faa(1, 2);

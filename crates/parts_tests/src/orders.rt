@@ -20,7 +20,8 @@ fn one_stage(alloc: Global, initial: Vec<(i64, i64)>) -> Result<Config, Fail> {
     Ok(Config::new(alloc, &raw)?)
 }
 
-/// Processing element 0 adds 3 to cell 0 and processing element 1 stores 10 in it, or the other way round.
+/// Processing element 0 adds 3 to cell 0 and processing element 1 stores 10 in it, or the other way
+/// round.
 fn add_and_store(alloc: Global, adds_first: bool) -> Result<Program, Fail> {
     let (zero, one, two) = (register(0), register(1), register(2));
     let (three, four) = (register(3), register(4));
@@ -94,7 +95,8 @@ fn answer(pe: Pe, word: Word, cycle: u32) -> LoggedAnswer {
     }
 }
 
-/// A log of the two additions: processing element 0 was answered this word in cycle 7, and processing element 1 issued and was answered in these cycles.
+/// A log of the two additions: processing element 0 was answered this word in cycle 7, and
+/// processing element 1 issued and was answered in these cycles.
 fn log_with(alloc: Global, word: Word, issued: u32, answered: u32) -> Result<Log, Fail> {
     Ok(Log {
         issues: vec![in alloc; issue(0, 2), issue(1, issued)]?,
@@ -236,7 +238,8 @@ fn broken_lists(rt: HostRuntime) -> Result<(), Fail> {
     check_breach(&rt, &log, 2, &[first], left_out)
 }
 
-/// The list of the two additions with one change: another operation, an entry repeated, another end.
+/// The list of the two additions with one change: another operation, an entry repeated, another
+/// end.
 #[test]
 fn changed_lists_are_found(rt: HostRuntime) -> Result<(), Fail> {
     let log = log_with(rt.alloc(), 1, 2, 7)?;

@@ -3,7 +3,8 @@
 use std::process::Abort;
 use ultra_msg::{Give, Op, Paired, Register, Reply, Shift, pair};
 
-/// A pair of the runs written out in the documents: what each was answered there, from the reply to what was sent.
+/// A pair of the runs written out in the documents: what each was answered there, from the reply to
+/// what was sent.
 struct Meeting {
     run: &'static str,
     old: Op,

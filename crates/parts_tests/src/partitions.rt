@@ -29,7 +29,8 @@ fn make_and_write_ten<R: Threads + Wait + Sync + Abort + AllocGlobal>(
     Ok(())
 }
 
-/// Asserts that ten cycles of the machine of `two_level_tree`, cut so and made by these workers, have that trace's lines.
+/// Asserts that ten cycles of the machine of `two_level_tree`, cut so and made by these workers,
+/// have that trace's lines.
 fn check_lines<R: Threads + Wait + Sync + Abort + AllocGlobal>(
     rt: &R,
     partition: &[u8],

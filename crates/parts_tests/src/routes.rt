@@ -39,7 +39,8 @@ fn line(rt: &impl Abort, net: Net, stage: u32) -> u32 {
     net.line(stage, 6, 3)
 }
 
-/// Asserts how the way of processing element 6 and module 3 leads through a stage, there and back: from a line to this position, and on to the next line.
+/// Asserts how the way of processing element 6 and module 3 leads through a stage, there and back:
+/// from a line to this position, and on to the next line.
 fn check_stage(rt: &impl Abort, net: Net, stage: u32, before: u32, position: u32) {
     assert_eq!(rt; entered(rt, net, before), position, "into stage {stage}");
     let left = line(rt, net, stage.saturating_add(1));

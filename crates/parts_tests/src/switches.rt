@@ -1,4 +1,5 @@
-//! One switch: a pair that combines and splits, a reply that waits, and the largest switch, as full as it gets.
+//! One switch: a pair that combines and splits, a reply that waits, and the largest switch, as full
+//! as it gets.
 
 use std::process::Abort;
 use std::test::Fail;
@@ -66,7 +67,8 @@ fn own_number(pe: Pe, cell: Cell) -> ReplyMessage {
     }
 }
 
-/// Loads of cells 0 to 15 arrive at an empty queue, and those of another processing element combine with them: 16 records.
+/// Loads of cells 0 to 15 arrive at an empty queue, and those of another processing element combine
+/// with them: 16 records.
 fn records_fill(rt: &impl Abort, requests: &mut ToMm) {
     for cell in 0..16 {
         assert!(rt; requests.has_room(), "at {cell}");
@@ -79,7 +81,8 @@ fn records_fill(rt: &impl Abort, requests: &mut ToMm) {
     assert_eq!(rt; requests.record_count(), 16);
 }
 
-/// Two loads a cell arrive behind them as long as two places are free. They don't combine, since no place of the wait buffer is free.
+/// Two loads a cell arrive behind them as long as two places are free. They don't combine, since no
+/// place of the wait buffer is free.
 fn requests_fill(rt: &impl Abort, requests: &mut ToMm) {
     for number in 0..15 {
         assert!(rt; requests.has_room(), "at {number}");

@@ -94,7 +94,9 @@ fn any_workers_of_the_largest_machine(rt: HostRuntime) -> Result<(), Fail> {
     Ok(())
 }
 
-/// Two workers: in every half each waits for the other at the gate. A run that makes all blocks in one thread keeps the contracts too, but fails this test. The turns run out, or, where it calls no gate, no flag is raised.
+/// Two workers: in every half each waits for the other at the gate. A run that makes all blocks in
+/// one thread keeps the contracts too, but fails this test. The turns run out, or, where it calls
+/// no gate, no flag is raised.
 #[test]
 fn gate_meets(rt: HostRuntime) -> Result<(), Fail> {
     let config = config(rt.alloc(), 1)?;
@@ -112,7 +114,9 @@ fn ends_in_a_fault<R: Abort>(rt: &R, out: &MemorySink<'_, R>, taken: usize) {
     assert_eq!(rt; out.failures, 1);
 }
 
-/// A run by n workers writes into a sink that takes `most` bytes a write and fails after `count` writes. Asserts that it answers `Write`, has written the first `most * count` bytes of the trace, and offers nothing after the fault.
+/// A run by n workers writes into a sink that takes `most` bytes a write and fails after `count`
+/// writes. Asserts that it answers `Write`, has written the first `most * count` bytes of the
+/// trace, and offers nothing after the fault.
 fn check_failing_sink<R: Threads + Wait + Sync + Abort + AllocGlobal>(
     rt: &R,
     config: &Config,
@@ -134,7 +138,8 @@ fn check_failing_sink<R: Threads + Wait + Sync + Abort + AllocGlobal>(
     }
 }
 
-/// Asserts how runs end whose sink takes a byte a write and fails after n writes; of two workers, which are slower, at every thirtieth number.
+/// Asserts how runs end whose sink takes a byte a write and fails after n writes; of two workers,
+/// which are slower, at every thirtieth number.
 fn check_write<R: Threads + Wait + Sync + Abort + AllocGlobal>(
     rt: &R,
     config: &Config,
@@ -178,7 +183,8 @@ fn short_run<R: Threads + Wait + Sync + Abort + AllocGlobal>(
     Ok(run_by(rt, &config, &program, workers, &Counter::new(), out)?)
 }
 
-/// A run by n workers, short enough to refuse each of its allocations in turn. It ends with a fault then, and what was written is a prefix of the trace.
+/// A run by n workers, short enough to refuse each of its allocations in turn. It ends with a fault
+/// then, and what was written is a prefix of the trace.
 fn check_short_run<R: Threads + Wait + Sync + Abort + AllocGlobal>(
     rt: &R,
     workers: usize,

@@ -194,7 +194,9 @@ pub(crate) static TWO_STAGES: [Example; 6] = [
     },
 ];
 
-/// Two processing elements refer to the cells of module 0 from both ends. The first eight requests of both are for 16 different cells, so they wait in one queue. The later requests of each are for cells of the other's first eight.
+/// Two processing elements refer to the cells of module 0 from both ends. The first eight requests
+/// of both are for 16 different cells, so they wait in one queue. The later requests of each are
+/// for cells of the other's first eight.
 const FROM_BOTH_ENDS: &[u8] = b"\
 pid r0
 li r1 2
@@ -240,7 +242,8 @@ ld r5 r5
 halt
 ";
 
-/// Runs of machines with the most places in queues and wait buffers, and with the fewest, in which 8 cells of a processing element are open.
+/// Runs of machines with the most places in queues and wait buffers, and with the fewest, in which
+/// 8 cells of a processing element are open.
 pub(crate) static SIZES: [Example; 2] = [
     Example {
         settings: "stages = 1\nrequest_places = 32\nreply_places = 64\nwait_places = 16\nopen = 8",

@@ -181,7 +181,8 @@ fn each_write_to_standard_error_fails_in_turn(rt: HostRuntime) -> Result<(), Fai
     Ok(())
 }
 
-/// Asserts that the status is that of standard output, where both streams fail at their first write.
+/// Asserts that the status is that of standard output, where both streams fail at their first
+/// write.
 fn check_both_fail<R: Host>(rt: &R, words: &[&str]) -> Result<(), Fail> {
     let failing = Limits::failing_once_after(0);
     call(rt, words, failing, failing)?.check(rt, (5, "", ""));
@@ -253,7 +254,8 @@ fn call_faulty<'w, R: Host>(
     Ok(ended)
 }
 
-/// Asserts what a command does that can't read a file, after `sound_reads` reads: it reports this line.
+/// Asserts what a command does that can't read a file, after `sound_reads` reads: it reports this
+/// line.
 fn check_unread<'w, R: Host>(
     rt: &R,
     words: &'w [&'w str],
@@ -268,7 +270,8 @@ fn check_unread<'w, R: Host>(
     Ok(())
 }
 
-/// Asserts what a command does to which the memory for a file is refused, after `sound_reads` reads.
+/// Asserts what a command does to which the memory for a file is refused, after `sound_reads`
+/// reads.
 fn check_no_memory<'w, R: Host>(
     rt: &R,
     words: &'w [&'w str],

@@ -61,8 +61,8 @@ fn barrier_is_written_and_runs(rt: HostRuntime) -> Result<(), Fail> {
 /// No files: the command reads none.
 static NO_FILES: [(&str, &[u8]); 0] = [];
 
-/// Asserts the status of words, and that they write to standard output where it is 0, and only there.
-/// Gives what goes to standard error.
+/// Asserts the status of words, and that they write to standard output where it is 0, and only
+/// there. Gives what goes to standard error.
 fn check_lib<'w, R: Host>(rt: &R, words: &'w [&'w str], wanted: u8) -> Result<String, Fail> {
     let ended = call(rt, words, &NO_FILES)?;
     assert_eq!(rt; ended.status, wanted, "{words:?}");

@@ -29,7 +29,8 @@ impl Limits {
         Limits::failing_after(usize::MAX, usize::MAX)
     }
 
-    /// A sink that takes at most `most` bytes a write, and fails after `sound_writes` writes, for good.
+    /// A sink that takes at most `most` bytes a write, and fails after `sound_writes` writes, for
+    /// good.
     pub(crate) fn failing_after(most: usize, sound_writes: usize) -> Limits
         requires { 0 < most }
     {
@@ -40,8 +41,8 @@ impl Limits {
         }
     }
 
-    /// A sink that takes one byte a write. After `sound_writes` writes it fails once, and would then
-    /// take more.
+    /// A sink that takes one byte a write. After `sound_writes` writes it fails once, and would
+    /// then take more.
     pub(crate) fn failing_once_after(sound_writes: usize) -> Limits {
         Limits {
             most: 1,

@@ -193,7 +193,8 @@ pe 0 halted 28 r6=12 r8=16 r10=20 r11=22 r12=24 r13=26 r14=28 r15=30
 pe 1 halted 40 r0=1 r1=2 r2=4 r3=6 r4=8 r6=12 r8=16 r10=20 r12=24 r14=28
 ";
 
-/// Requests wait in lists of up to 7, since the queue takes arrivals only where it is empty. Steps stall, since 8 cells are open.
+/// Requests wait in lists of up to 7, since the queue takes arrivals only where it is empty. Steps
+/// stall, since 8 cells are open.
 pub(crate) const FEWEST_PLACES: &str = "\
 ultra trace 2
 cycle 0

@@ -19,8 +19,8 @@ conf = \"c.toml\"
 prog = \"add.s\"
 ";
 
-/// Does what the words ask for, with this file of jobs. Where memory or a thread was refused, nothing
-/// is written, and that is the error here.
+/// Does what the words ask for, with this file of jobs. Where memory or a thread was refused,
+/// nothing is written, and that is the error here.
 fn sweep<R: Host>(rt: &R, words: &[&str], jobs: &str, out: Limits) -> Result<Ended, Fail> {
     let files: [(&str, &[u8]); 4] = [
         ("jobs.toml", jobs.as_bytes()),
@@ -93,8 +93,8 @@ fn two_job_sweep(rt: HostRuntime) -> Result<(), Fail> {
     Ok(())
 }
 
-/// Asserts that a sweep by this many workers reports the two jobs, and that the lines of progress on
-/// standard error say so.
+/// Asserts that a sweep by this many workers reports the two jobs, and that the lines of progress
+/// on standard error say so.
 fn check_progress<R: Host>(rt: &R, workers: &str, report: &str) -> Result<(), Fail> {
     let words = [
         "ultra",
@@ -196,8 +196,8 @@ fn a_file_of_jobs_that_is_not_there_is_named(rt: HostRuntime) -> Result<(), Fail
     check_sweep(&rt, &words, "", wanted)
 }
 
-/// Words of a sweep that are a usage fault, each with what its text says. Both options are required,
-/// and are from 1 to 64.
+/// Words of a sweep that are a usage fault, each with what its text says. Both options are
+/// required, and are from 1 to 64.
 static WRONG_WORDS: [(&[&str], &str); 6] = [
     (&["ultra", "sweep", "jobs.toml"], "--workers <H>"),
     (

@@ -1,4 +1,5 @@
-//! The traces of the examples with machines of one stage. That of `combined_pair` is in `test_support`.
+//! The traces of the examples with machines of one stage. That of `combined_pair` is in
+//! `test_support`.
 
 pub(crate) const UNCOMBINED_PAIR: &str = "\
 ultra trace 2

@@ -1,4 +1,5 @@
-//! The traces of the examples with machines of two stages. That of `two_level_tree` is in `test_support`.
+//! The traces of the examples with machines of two stages. That of `two_level_tree` is in
+//! `test_support`.
 
 pub(crate) const FOUR_TO_ONE_CELL: &str = "\
 ultra trace 2

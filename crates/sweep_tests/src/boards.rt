@@ -56,7 +56,8 @@ fn draw_all(board: &Board, mut seat: Seat) -> Seat
     seat
 }
 
-/// The first seat of three places splits off two, which two threads draw with. Whatever the schedule, each number is finished once, and two asks found none left.
+/// The first seat of three places splits off two, which two threads draw with. Whatever the
+/// schedule, each number is finished once, and two asks found none left.
 #[test]
 fn two_threads_draw_all(rt: HostRuntime) -> Result<(), Fail> {
     let (board, first) = Board::open(rt.alloc(), 1000, 1, 3)?;
@@ -138,7 +139,8 @@ fn draw(board: &Board, seat: &mut Seat) -> Option<u64>
     board.draw(seat)
 }
 
-/// Two seats draw three numbers in turn. Both then ask once past the end; the spent one asks no more.
+/// Two seats draw three numbers in turn. Both then ask once past the end; the spent one asks no
+/// more.
 #[test]
 fn board_basics(rt: HostRuntime) -> Result<(), Fail> {
     let (board, mut a, mut b) = board_of_two(&rt)?;

@@ -146,10 +146,10 @@ fn most_jobs_in_order(rt: HostRuntime) -> Result<(), Fail> {
 }
 
 /// Two threads. Where two jobs may run at once, each waits in its run for the other's; where one
-/// may, none ever runs beside another. A `work` that runs one job at a time fails
-/// this test, for example one in which job n waits until n jobs are finished: the turns run out.
-/// They run out too where a thread can't be started, since `join` then makes the calls sequentially.
-/// A `work` that ignores the passes also fails: two runs are under way at once.
+/// may, none ever runs beside another. A `work` that runs one job at a time fails this test, for
+/// example one in which job n waits until n jobs are finished: the turns run out. They run out too
+/// where a thread can't be started, since `join` then makes the calls sequentially. A `work` that
+/// ignores the passes also fails: two runs are under way at once.
 #[test]
 fn jobs_meet(rt: HostRuntime) -> Result<(), Fail> {
     let jobs = two_jobs(rt.alloc())?;

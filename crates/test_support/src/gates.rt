@@ -44,7 +44,8 @@ impl Gate for Holdup {
     }
 }
 
-/// A gate at which the workers of blocks 0 and 1 meet. Each raises its flag to the number of the half, and waits for the other's, 10,000,000 turns at most.
+/// A gate at which the workers of blocks 0 and 1 meet. Each raises its flag to the number of the
+/// half, and waits for the other's, 10,000,000 turns at most.
 #[derive(Drop)]
 pub struct Meeting {
     flags: [AtomicU64; 2],

@@ -1,4 +1,5 @@
-//! What several crates of tests share, and what asserts nothing: settings, programs, messages, events, gates and traces.
+//! What several crates of tests share, and what asserts nothing: settings, programs, messages,
+//! events, gates and traces.
 #![tactic(auto)]
 
 mod gates;

@@ -29,7 +29,8 @@ pub fn issued_event(pe: Pe, word: Word) -> Event {
     }
 }
 
-/// Two requests combine at this stage and position: that of the first processing element with that of the second.
+/// Two requests combine at this stage and position: that of the first processing element with that
+/// of the second.
 pub fn combined_event(stage: u32, position: u32, old: Pe, new: Pe) -> Event {
     Event::Combined {
         stage,
@@ -52,7 +53,8 @@ pub fn record_of_pair(pe: Pe, partner: Pe, more: Word) -> WaitRecord {
     }
 }
 
-/// Module 0 serves the request of a processing element that adds a word, with the value before and after.
+/// Module 0 serves the request of a processing element that adds a word, with the value before and
+/// after.
 pub fn served_event(pe: Pe, word: Word, old: Word, now: Word) -> Event {
     Event::Served {
         module: 0,

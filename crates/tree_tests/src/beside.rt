@@ -85,7 +85,8 @@ pub(crate) fn program_of(list: Vec<Instr>) -> Result<Program, Fail> {
     }
 }
 
-/// The machine in which each of four processing elements adds its number and 1 to cell 0, before its first cycle.
+/// The machine in which each of four processing elements adds its number and 1 to cell 0, before
+/// its first cycle.
 fn machine<R: Abort + AllocGlobal>(rt: &R) -> Result<Blocks, Fail> {
     let program = add_number(rt)?;
     let settings = settings(rt, 2)?;
@@ -134,7 +135,8 @@ fn make_cycle<R: Abort>(
     Ok(write_cycle(blocks, out)?)
 }
 
-/// Makes the ten cycles of the machine. The explainer beside it absorbs their events up to that of cycle 3 which is refused.
+/// Makes the ten cycles of the machine. The explainer beside it absorbs their events up to that of
+/// cycle 3 which is refused.
 fn run_beside<R: Abort, A: Allocator + Clone>(
     rt: &R,
     blocks: &mut Blocks,
@@ -152,7 +154,8 @@ fn run_beside<R: Abort, A: Allocator + Clone>(
     Ok(())
 }
 
-/// In a heap with room for an explainer alone the first combination is refused, and so is what comes next. The machine beside it goes on.
+/// In a heap with room for an explainer alone the first combination is refused, and so is what
+/// comes next. The machine beside it goes on.
 #[test]
 fn explainer_without_memory(rt: HostRuntime) -> Result<(), Fail> {
     let mut blocks = machine(&rt)?;

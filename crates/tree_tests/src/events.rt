@@ -100,7 +100,8 @@ pub(crate) fn serve<A: Allocator + Clone>(
     served.ok().flatten().expect(rt, "no tree")
 }
 
-/// What happens before the act where each of four processing elements adds its number and 1 to cell 0.
+/// What happens before the act where each of four processing elements adds its number and 1 to cell
+/// 0.
 pub(crate) fn all_combined() -> [Event; 7] {
     [
         issue(0, 0, 1),

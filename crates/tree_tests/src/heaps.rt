@@ -22,8 +22,8 @@ fn bytes_of_half<R: AllocGlobal + Abort>(rt: &R) -> usize {
     of_pair.expect(rt, "a pair takes no bytes") / 2
 }
 
-/// With a heap of this many bytes the event after this many is refused, all memory of trees comes back, and whatever
-/// comes then is refused too.
+/// With a heap of this many bytes the event after this many is refused, all memory of trees comes
+/// back, and whatever comes then is refused too.
 fn check_full<R: AllocGlobal + Abort>(rt: &R, bytes: usize, events: usize) {
     let heap = LocalHeap::new(rt.alloc(), bytes).expect(rt, "no memory");
     let mut explainer = explainer(rt, &heap);
@@ -33,7 +33,8 @@ fn check_full<R: AllocGlobal + Abort>(rt: &R, bytes: usize, events: usize) {
     assert!(rt; matches!(later, Err(ExplainFault::Spent)));
 }
 
-/// A heap with room for an explainer alone refuses the first combination, one with room for two pairs the third.
+/// A heap with room for an explainer alone refuses the first combination, one with room for two
+/// pairs the third.
 #[test]
 fn a_heap_that_is_full(rt: HostRuntime) -> Result<(), Fail> {
     for events in [4, 6] {
@@ -42,7 +43,8 @@ fn a_heap_that_is_full(rt: HostRuntime) -> Result<(), Fail> {
     Ok(())
 }
 
-/// Where only the half of a pair has room, the pair is refused, and the memory of that half comes back too.
+/// Where only the half of a pair has room, the pair is refused, and the memory of that half comes
+/// back too.
 #[test]
 fn a_heap_with_room_for_half_a_pair(rt: HostRuntime) -> Result<(), Fail> {
     for events in [4, 6] {

@@ -9,7 +9,8 @@ use ultra_model::Config;
 use ultra_msg::{Op, Pe};
 use ultra_tree::{Explainer, Leaf, Tree, height, leaves};
 
-/// Absorbs the first request of processing element 0, and this many of processing element 1, which issues anew as soon as its request has combined.
+/// Absorbs the first request of processing element 0, and this many of processing element 1, which
+/// issues anew as soon as its request has combined.
 fn grow<A: Allocator + Clone>(rt: &impl Abort, explainer: &mut Explainer<A>, levels: u32) {
     assert!(rt; absorb(rt, explainer, &issue(0, 0, 1)).is_ok());
     for number in 0..levels {
@@ -49,7 +50,8 @@ fn a_high_tree_is_dropped(rt: HostRuntime) -> Result<(), Fail> {
     Ok(())
 }
 
-/// Absorbs the first request of processing element 0, and this many more of it and of 1 by turns: what has combined so far comes to each.
+/// Absorbs the first request of processing element 0, and this many more of it and of 1 by turns:
+/// what has combined so far comes to each.
 fn grow_at_new<A: Allocator + Clone>(rt: &impl Abort, explainer: &mut Explainer<A>, levels: u32) {
     assert!(rt; absorb(rt, explainer, &issue(0, 0, 1)).is_ok());
     for number in 0..levels {

@@ -41,7 +41,8 @@ fn pair(stage: u32, position: u32) -> Step {
     }
 }
 
-/// Asserts that a walk over a tree comes to these nodes: to each pair before its parts, and to its old part first.
+/// Asserts that a walk over a tree comes to these nodes: to each pair before its parts, and to its
+/// old part first.
 fn check_walk<R: Abort + AllocGlobal, A: Allocator>(rt: &R, tree: &Tree<A>, wanted: &[Step]) {
     let mut waiting = Vec::new(rt.alloc());
     let mut next = Some(tree.node());

@@ -41,8 +41,8 @@ fn machine<R: Abort + AllocGlobal>(rt: &R) -> Result<Blocks, Fail> {
     Ok(Blocks::new(rt.alloc(), &settings, &program_of(list)?, &[0; 28])?)
 }
 
-/// Makes a cycle, and gives the tree of the act in it, if there is one. Each reply that is delivered is put at the number
-/// of its processing element.
+/// Makes a cycle, and gives the tree of the act in it, if there is one. Each reply that is
+/// delivered is put at the number of its processing element.
 fn run_cycle<A: Allocator + Clone>(
     rt: &impl Abort,
     blocks: &mut Blocks,

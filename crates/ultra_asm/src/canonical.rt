@@ -51,9 +51,11 @@ fn target(instruction: Instr) -> Option<u16>
     }
 }
 
-/// Writes the canonical text of a program, one instruction a line. Where some jump goes to program counter `k`, the line `Lk:` is before the instruction at `k`, or at the end.
+/// Writes the canonical text of a program, one instruction a line. Where some jump goes to program
+/// counter `k`, the line `Lk:` is before the instruction at `k`, or at the end.
 ///
-/// It takes no memory, and fails only where the sink does. After a fault the sink has taken a prefix of the text.
+/// It takes no memory, and fails only where the sink does. After a fault the sink has taken a
+/// prefix of the text.
 pub fn listing<S: Sink>(program: &Program, sink: &mut S) -> Result<(), SinkFault>
     ensures ok { OnOk result (S.taken sink.new ≡ S.taken sink.old ++ listing_text program.now) }
     ensures still { OnOk result (S.failures sink.new ≡ S.failures sink.old) }
@@ -80,7 +82,8 @@ fn write_program<S: Sink>(buffer: &mut TextBuffer<'_, S>, program: &Program)
     write_label_line(buffer, &targets, program.len());
 }
 
-/// Writes the instruction at a program counter, behind the label of the program counter if some jump goes there.
+/// Writes the instruction at a program counter, behind the label of the program counter if some
+/// jump goes there.
 fn write_pc<S: Sink>(
     buffer: &mut TextBuffer<'_, S>,
     targets: &Targets,

@@ -16,7 +16,8 @@ use ultra_isa::MOST_INSTRUCTIONS;
 pub struct Definition {
     /// The line, by its index from 0.
     pub line: usize,
-    /// The program counter of the next instruction, from 0. It is 4096 also where that is above 4096.
+    /// The program counter of the next instruction, from 0. It is 4096 also where that is above
+    /// 4096.
     pub pc: usize,
 }
 
@@ -78,7 +79,8 @@ impl<'t> Labels<'t> {
         }
     }
 
-    /// The program counter that the name stands for, if it is defined. Program counters above 4096 count as 4096.
+    /// The program counter that the name stands for, if it is defined. Program counters above 4096
+    /// count as 4096.
     pub fn pc(&self, name: &[u8]) -> Option<u16>
         ensures { result ≡ pcs_in self.now name.now }
     {

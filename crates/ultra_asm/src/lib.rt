@@ -1,4 +1,5 @@
-//! The assembler: from the text of a program to its instructions, and back to its canonical listing. The language is this project's profile.
+//! The assembler: from the text of a program to its instructions, and back to its canonical
+//! listing. The language is this project's profile.
 #![tactic(auto)]
 
 ghost use Rattle.std.specs.Prelude.{◌≡◌, List, IfOk, IfErr};
@@ -86,9 +87,13 @@ impl<T: Drop> From<AllocFailed<T>> for AsmFault {
     }
 }
 
-/// The program that the text writes: in the grammar of this project's profile, each line may begin with a label and then may have an instruction.
+/// The program that the text writes: in the grammar of this project's profile, each line may begin
+/// with a label and then may have an instruction.
 ///
-/// Else the fault names the first line that has one. Or it is `NoMemory`, with line 0, where memory for the labels, the instructions or the words of a line was refused. No other memory is asked for. The time is at most proportional to the text's length times the logarithm of the number of labels.
+/// Else the fault names the first line that has one. Or it is `NoMemory`, with line 0, where memory
+/// for the labels, the instructions or the words of a line was refused. No other memory is asked
+/// for. The time is at most proportional to the text's length times the logarithm of the number of
+/// labels.
 pub fn assemble(alloc: Global, text: &str) -> Result<Program, AsmFault>
     ensures ok { IfOk result (IsProgramText text.now) }
     ensures refused { IfErr result (ExplainsAsmFault text.now) }

@@ -148,7 +148,8 @@ fn instruction(
     }
 }
 
-/// The instruction of the words behind a label, or `None` where there are no words. `has_room` says whether the program may have one more.
+/// The instruction of the words behind a label, or `None` where there are no words. `has_room` says
+/// whether the program may have one more.
 fn statement_instruction(
     words: &[&[u8]],
     has_room: bool,
@@ -166,7 +167,8 @@ fn statement_instruction(
     Ok(Some(instruction(mnemonic, operands, labels)?))
 }
 
-/// Whether the line of this index, from 0, may begin as its words do. If the first word ends with `:`, it must be a label, and one of no earlier line.
+/// Whether the line of this index, from 0, may begin as its words do. If the first word ends with
+/// `:`, it must be a label, and one of no earlier line.
 fn check_label(words: &[&[u8]], index: usize, labels: &Labels) -> Result<(), AsmFaultKind>
     ensures { result ≡ check_label (definition_in labels.now) index (map (λ w. w.now) words.now) }
 {
@@ -179,7 +181,8 @@ fn check_label(words: &[&[u8]], index: usize, labels: &Labels) -> Result<(), Asm
     }
 }
 
-/// Whether the line of this index, from 0, may begin with the word and a `:`: it must be a name, and a label of no earlier line.
+/// Whether the line of this index, from 0, may begin with the word and a `:`: it must be a name,
+/// and a label of no earlier line.
 fn check_name(word: &[u8], index: usize, labels: &Labels) -> Result<(), AsmFaultKind>
     ensures { result ≡ check_name (definition_in labels.now) index word.now }
 {
@@ -192,7 +195,8 @@ fn check_name(word: &[u8], index: usize, labels: &Labels) -> Result<(), AsmFault
     }
 }
 
-/// The instruction of the line of this index, from 0, or `None` where it has none. `has_room` says whether the program may have one more.
+/// The instruction of the line of this index, from 0, or `None` where it has none. `has_room` says
+/// whether the program may have one more.
 pub fn line_instruction(
     words: &[&[u8]],
     index: usize,

@@ -9,8 +9,8 @@ use std::alloc::{AllocError, Global};
 use ultra_io::{number_written, plain_number};
 use ultra_msg::{Register, Shift};
 
-/// The most words of a line that are looked at: a label, the word of an instruction, three operands,
-/// and one word more, which is one too many.
+/// The most words of a line that are looked at: a label, the word of an instruction, three
+/// operands, and one word more, which is one too many.
 const MOST_WORDS: usize = 6;
 
 /// The first words of a line, six at most.

@@ -51,7 +51,9 @@ impl Parts {
     }
 }
 
-/// A whole machine, cut into blocks, between two cycles: its settings, its program, the block of each unit, and the blocks. Switches come first in the partition, then modules, then processing elements.
+/// A whole machine, cut into blocks, between two cycles: its settings, its program, the block of
+/// each unit, and the blocks. Switches come first in the partition, then modules, then processing
+/// elements.
 ///
 /// Contracts see it as the machine of the definition, the same for every partition.
 #[derive(Drop)]
@@ -69,7 +71,8 @@ impl Model for Blocks {
 
 #[tactic(auto, using(crate::proofs::Seen::parts_are))]
 impl Blocks {
-    /// The machine of these settings and this program before its first cycle, with all units in one block. All registers and cells are 0 except the initial ones, and nothing is on its way.
+    /// The machine of these settings and this program before its first cycle, with all units in one
+    /// block. All registers and cells are 0 except the initial ones, and nothing is on its way.
     ///
     /// It keeps copies of both. An error says that memory was refused.
     pub fn in_one_block(
@@ -90,9 +93,13 @@ impl Blocks {
         })
     }
 
-    /// The machine of these settings and this program before its first cycle, as by `in_one_block`, but cut by a partition. That names the block of each unit, 0 to 63: switches come first, then modules, then processing elements. Blocks may be empty; their count is one more than the greatest number in the partition.
+    /// The machine of these settings and this program before its first cycle, as by `in_one_block`,
+    /// but cut by a partition. That names the block of each unit, 0 to 63: switches come first,
+    /// then modules, then processing elements. Blocks may be empty; their count is one more than
+    /// the greatest number in the partition.
     ///
-    /// `BadPartition` says that the partition is not of this length, or that a block is above 63; it is found before memory is asked for. `NoMemory` says that memory was refused.
+    /// `BadPartition` says that the partition is not of this length, or that a block is above 63;
+    /// it is found before memory is asked for. `NoMemory` says that memory was refused.
     pub fn new(
         alloc: Global,
         config: &Config,
@@ -112,9 +119,12 @@ impl Blocks {
             .map_err(|(_, fault)| fault)
     }
 
-    /// The same machine cut by a partition: its units move to other blocks, and nothing else changes. All of them have to be in one block before. The partition names the block of each unit as for `new`.
+    /// The same machine cut by a partition: its units move to other blocks, and nothing else
+    /// changes. All of them have to be in one block before. The partition names the block of each
+    /// unit as for `new`.
     ///
-    /// `BadPartition` says that it is not one; it is found before memory is asked for. `NoMemory` says that memory was refused. With either the same machine is given back.
+    /// `BadPartition` says that it is not one; it is found before memory is asked for. `NoMemory`
+    /// says that memory was refused. With either the same machine is given back.
     pub fn recut(self, alloc: Global, partition: &[u8]) -> Result<Blocks, (Blocks, PartitionFault)>
         requires { self.count ≡ 1 }
         ensures state { IfOk result (λ b. b ≡ record self { partition = partition.now; count = b.count }) }
@@ -162,7 +172,8 @@ impl Blocks {
         Blocks { parts }
     }
 
-    /// The machine makes one cycle: replies, memory, requests, processors. It takes no memory and always succeeds.
+    /// The machine makes one cycle: replies, memory, requests, processors. It takes no memory and
+    /// always succeeds.
     ///
     /// Its count of cycles has to be below `2^32 - 1`.
     #[inline(always)]
@@ -179,7 +190,8 @@ impl Blocks {
         self.parts.done += 1;
     }
 
-    /// Whether every processing element has halted or faulted, and nothing is on its way or open. It looks no further than the first unit that isn't at rest.
+    /// Whether every processing element has halted or faulted, and nothing is on its way or open.
+    /// It looks no further than the first unit that isn't at rest.
     #[inline(always)]
     pub fn is_quiet(&self) -> bool
         ensures { result ≡ is_quiet self.now.machine }
@@ -215,7 +227,8 @@ impl Blocks {
         self.parts.partition.as_slice()
     }
 
-    /// The units that hold what is asked for. Switches are numbered first, by stage, then modules, then processing elements.
+    /// The units that hold what is asked for. Switches are numbered first, by stage, then modules,
+    /// then processing elements.
     #[inline(always)]
     pub fn holding(&self, held: Held) -> UnitSet
         ensures { IsSetOf (holds self.now.config.stages self.now.machine held) result }
@@ -232,7 +245,9 @@ impl Blocks {
         self.parts.blocks[0].holding(held)
     }
 
-    /// What happened in the last cycle, in the order of the rules: deliveries by processing element, servings by module, combinations by stage, position and arrival, issues by processing element.
+    /// What happened in the last cycle, in the order of the rules: deliveries by processing
+    /// element, servings by module, combinations by stage, position and arrival, issues by
+    /// processing element.
     #[tactic(auto, using(std::proofs::lemmas::Grind::common_steps), unfolding(ultra_cycle_law::specs::Whole::whole, ultra_partition::specs::Events::events_of))]
     pub fn events(&self) -> Merge<'_, Event, ByRules>
         ensures { events_left result ≡ self.now.machine.events }
@@ -283,7 +298,8 @@ impl Blocks {
         self.parts.blocks[0].stops()
     }
 
-    /// The queue toward memory at a memory-side position of a stage, with its wait buffer. Stages count from 0, positions too.
+    /// The queue toward memory at a memory-side position of a stage, with its wait buffer. Stages
+    /// count from 0, positions too.
     pub fn lane(&self, stage: u32, position: u32) -> &ToMm
         requires stage { stage < self.now.config.stages }
         requires position { position < 2 ^ self.now.config.stages }

@@ -45,7 +45,8 @@ fn new_element(config: &Config, pe: Pe) -> ProcessingElement
     }
 }
 
-/// All units of the machine before its first cycle, in one block, which keeps a copy of the program. An error says that memory was refused.
+/// All units of the machine before its first cycle, in one block, which keeps a copy of the
+/// program. An error says that memory was refused.
 #[tactic(auto, using(crate::proofs::Built::row_steps))]
 pub(crate) fn fresh_block(
     alloc: Global,
@@ -77,7 +78,8 @@ pub(crate) fn fresh_block(
     Ok(block)
 }
 
-/// `count` blocks without units of the machine of this block, after as many cycles. An error says that memory was refused.
+/// `count` blocks without units of the machine of this block, after as many cycles. An error says
+/// that memory was refused.
 pub(crate) fn empty_blocks(
     alloc: Global,
     block: &Block,

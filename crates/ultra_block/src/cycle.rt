@@ -12,7 +12,8 @@ use ultra_model::Config;
 use ultra_partition::{MessageKind, exchange, note_rooms};
 use ultra_topology::is_small;
 
-/// The blocks of a machine, which has made `done` cycles, make one more: replies, memory, requests, processors.
+/// The blocks of a machine, which has made `done` cycles, make one more: replies, memory, requests,
+/// processors.
 pub(crate) fn make_cycle(blocks: &mut [Block], config: &Config, partition: &[u8], done: u32)
     requires whole { (program : List Instr) × AreWhole config.now program partition.now done blocks.old }
     requires counted { done < 2 ^ 32 - 1 }
@@ -25,7 +26,9 @@ pub(crate) fn make_cycle(blocks: &mut [Block], config: &Config, partition: &[u8]
     }
 }
 
-/// Blocks, however many, make a cycle. All make a half before any makes the next, and between the two halves of a phase each message goes to the block of the unit to which it leads. It is a separate function, so that a machine in one block makes no room for what is noted here.
+/// Blocks, however many, make a cycle. All make a half before any makes the next, and between the
+/// two halves of a phase each message goes to the block of the unit to which it leads. It is a
+/// separate function, so that a machine in one block makes no room for what is noted here.
 #[inline(never)]
 fn make_cycle_of_several(blocks: &mut [Block], config: &Config, partition: &[u8], done: u32)
     requires whole { (program : List Instr) × AreWhole config.now program partition.now done blocks.old }
@@ -45,7 +48,8 @@ fn make_cycle_of_several(blocks: &mut [Block], config: &Config, partition: &[u8]
     make(blocks, Half::Execute, &rooms);
 }
 
-/// The one block of a whole machine makes a cycle. It knows all rooms, and its messages lead to its own units. The code for a `SMALL` machine is compiled as a specialised copy.
+/// The one block of a whole machine makes a cycle. It knows all rooms, and its messages lead to its
+/// own units. The code for a `SMALL` machine is compiled as a specialised copy.
 #[inline(never)]
 fn make_cycle_of_one<const SMALL: bool>(block: &mut Block)
     requires small { SMALL ≡ true → IsSmall block.old.stages }
@@ -60,7 +64,8 @@ fn make_cycle_of_one<const SMALL: bool>(block: &mut Block)
     block.execute_sized::<SMALL>();
 }
 
-/// Every block makes this half of a cycle, with the rooms that were noted before it. Each block has to meet the half's conditions.
+/// Every block makes this half of a cycle, with the rooms that were noted before it. Each block has
+/// to meet the half's conditions.
 #[inline(always)]
 #[tactic(auto, using(ultra_block_core::proofs::OwnProgram::can_by_own, std::proofs::lemmas::List::get_or_default, std::proofs::lemmas::Grind::common_steps))]
 fn make(blocks: &mut [Block], half: Half, rooms: &Rooms)

@@ -60,7 +60,8 @@ fn are_blocks(partition: &[u8]) -> bool
     partition.iter().all(|block| *block < MOST_BLOCKS)
 }
 
-/// Whether the partition names a block from 0 to 63 for each unit of a machine of these settings, and no more.
+/// Whether the partition names a block from 0 to 63 for each unit of a machine of these settings,
+/// and no more.
 pub(crate) fn names_all_units(config: &Config, partition: &[u8]) -> bool
     ensures { result ≡ is_partition config.now partition.now }
 {

@@ -9,7 +9,8 @@ use ultra_partition::Ranking;
 use ultra_route::Net;
 use ultra_topology::{MOST_UNITS, switch_count};
 
-/// Ranks events in the order of the rules: deliveries by processing element, servings by module, combinations by switch, issues by processing element.
+/// Ranks events in the order of the rules: deliveries by processing element, servings by module,
+/// combinations by switch, issues by processing element.
 #[derive(Clone, Copy, Drop)]
 pub struct ByRules {
     /// The machine's network.

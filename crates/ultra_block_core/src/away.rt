@@ -10,7 +10,8 @@ use ultra_msg::{ReplyPacket, RequestPacket};
 use ultra_switch::Ports;
 use ultra_topology::UnitSet;
 
-/// The first unit of a set from `from` on. Where there is none at all, it takes no more than one look at the set.
+/// The first unit of a set from `from` on. Where there is none at all, it takes no more than one
+/// look at the set.
 #[inline(always)]
 fn next_of(away: UnitSet, from: usize) -> Option<usize>
     ensures some { IfSome result (λ k. IsFirstFrom away from k) }
@@ -23,7 +24,8 @@ fn next_of(away: UnitSet, from: usize) -> Option<usize>
 }
 
 impl Block {
-    /// The first unit from `from` on that isn't in this block and to which replies may lead from it.
+    /// The first unit from `from` on that isn't in this block and to which replies may lead from
+    /// it.
     #[inline(always)]
     #[tactic(auto, using(crate::proofs::Known::next_away))]
     pub fn next_reply_target_elsewhere(&self, from: usize) -> Option<usize>
@@ -66,7 +68,8 @@ impl Block {
         self.replies.add_messages_to(unit, inlets, replies);
     }
 
-    /// The first unit from `from` on that isn't in this block and to which requests may lead from it.
+    /// The first unit from `from` on that isn't in this block and to which requests may lead from
+    /// it.
     #[inline(always)]
     #[tactic(auto, using(crate::proofs::Known::next_away))]
     pub fn next_request_target_elsewhere(&self, from: usize) -> Option<usize>

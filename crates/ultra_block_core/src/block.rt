@@ -14,9 +14,13 @@ use ultra_switch::Switch;
 use ultra_topology::{Links, Unit, UnitSet, Wiring};
 use ultra_unit_steps::ProcessingElement;
 
-/// Some of the units of a machine, by their numbers: any switches, modules and processing elements, or none. A link has the number of the position, module or processing element from which it leads. What a unit of this block sends is put on its link, and what comes to a unit of this block is taken from there.
+/// Some of the units of a machine, by their numbers: any switches, modules and processing elements,
+/// or none. A link has the number of the position, module or processing element from which it
+/// leads. What a unit of this block sends is put on its link, and what comes to a unit of this
+/// block is taken from there.
 ///
-/// A cycle is made of six halves, each done to every block: `send_replies`, `take_replies`, `serve`, `send_requests`, `take_requests`, `execute`. No half takes memory.
+/// A cycle is made of six halves, each done to every block: `send_replies`, `take_replies`,
+/// `serve`, `send_requests`, `take_requests`, `execute`. No half takes memory.
 #[derive(Drop)]
 pub struct Block {
     pub(crate) net: Net,
@@ -32,7 +36,8 @@ pub struct Block {
     /// The processing elements of this block, by their numbers.
     pub(crate) elements: Vec<Option<ProcessingElement>>,
     pub(crate) sets: Sets,
-    /// A superset of the processing elements that may do something in a step. All others are at rest until a reply is delivered.
+    /// A superset of the processing elements that may do something in a step. All others are at
+    /// rest until a reply is delivered.
     pub(crate) awake: UnitSet,
     pub(crate) replies: Links<ReplyPacket>,
     pub(crate) requests: Links<RequestPacket>,
@@ -86,7 +91,8 @@ impl Block {
         self.elements[pe as usize].as_ref().unwrap()
     }
 
-    /// What has happened to its units in the cycle, in the order of the halves, and in each half by the number of the unit.
+    /// What has happened to its units in the cycle, in the order of the halves, and in each half by
+    /// the number of the unit.
     pub fn events(&self) -> &[Event]
         ensures { result.now ≡ self.now.events }
     {

@@ -1,4 +1,5 @@
-//! Blocks without units, units that are put into a block or taken out of it, and what goes from one block to another.
+//! Blocks without units, units that are put into a block or taken out of it, and what goes from one
+//! block to another.
 
 ghost use Rattle.std.specs.Prelude.{◌≡◌, ◌<◌, ◌^◌, IfOk, None, Some, slice_set};
 ghost use Rattle.ultra_block_core.specs.{Prelude.switch_count as count_of_switches, BlockState.own_element, BlockState.own_module, BlockState.own_switch, Building.empty_block, Building.with_unit, Building.without_unit};
@@ -26,14 +27,16 @@ const MOST_EVENTS: usize = 8 * MOST_UNITS;
 const MOST_STOPS: usize = MOST_UNITS;
 
 impl Block {
-    /// A block without units, of a machine with this network that runs this program, before its first cycle. It keeps a copy of the program. An error says that memory was refused.
+    /// A block without units, of a machine with this network that runs this program, before its
+    /// first cycle. It keeps a copy of the program. An error says that memory was refused.
     pub fn empty(alloc: Global, net: Net, program: &Program) -> Result<Block, AllocError>
         ensures { IfOk result (λ b. b ≡ empty_block net program.now) }
     {
         Block::empty_after(alloc, net, program, 0)
     }
 
-    /// A block without units, of a machine with this network that runs this program, after this many cycles. It keeps a copy of the program. An error says that memory was refused.
+    /// A block without units, of a machine with this network that runs this program, after this
+    /// many cycles. It keeps a copy of the program. An error says that memory was refused.
     pub fn empty_after(
         alloc: Global,
         net: Net,

@@ -9,7 +9,8 @@ use ultra_topology::{UnitNumber, UnitSet, Visit, visit_all};
 use ultra_unit_steps::{StepOutcome, append};
 
 impl Block {
-    /// The last half of a cycle: each processing element makes one step of the program. The cycles that are done are fewer than `2^32 - 1`.
+    /// The last half of a cycle: each processing element makes one step of the program. The cycles
+    /// that are done are fewer than `2^32 - 1`.
     #[inline(always)]
     pub fn execute(&mut self)
         requires can { (k : ℕ) → k < MOST_UNITS → CanExecuteAt k self.old }

@@ -24,7 +24,8 @@ pub enum Half {
 }
 
 impl Block {
-    /// Makes this half of a cycle, with the rooms that were noted before it. The half's conditions have to be met.
+    /// Makes this half of a cycle, with the rooms that were noted before it. The half's conditions
+    /// have to be met.
     #[inline(always)]
     pub fn make(&mut self, half: Half, rooms: &Rooms)
         requires { CanMake self.old.program half self.old }

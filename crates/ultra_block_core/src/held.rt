@@ -10,7 +10,8 @@ use ultra_topology::UnitSet;
 pub enum Held {
     /// A reply to send: in a queue of a switch, or in a module.
     Reply,
-    /// A request: in a queue of a switch, in the register of a module where it waits to be served, or in the interface of a processing element.
+    /// A request: in a queue of a switch, in the register of a module where it waits to be served,
+    /// or in the interface of a processing element.
     Request,
     /// A record of a combination: in a wait buffer of a switch.
     Record,

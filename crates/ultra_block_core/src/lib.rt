@@ -1,12 +1,12 @@
 //! Blocks: some units of a machine, by their numbers, and the links between them.
 //!
-//! A block keeps sets of unit numbers, each a fact about its units or about what is on links. A half
-//! of a cycle visits only the units of one of them, since it leaves all others as they are.
+//! A block keeps sets of unit numbers, each a fact about its units or about what is on links. A
+//! half of a cycle visits only the units of one of them, since it leaves all others as they are.
 //! `docs/CRATES.md` lists the sets: what each says, who notes it, and who reads it.
 //!
-//! The code that changes units is compiled twice, by the constant `SMALL`. One copy is for a machine
-//! in one block of at most 4 stages: all of its units, at most 64, are in the first word of a set.
-//! The other is for all other machines.
+//! The code that changes units is compiled twice, by the constant `SMALL`. One copy is for a
+//! machine in one block of at most 4 stages: all of its units, at most 64, are in the first word of
+//! a set. The other is for all other machines.
 #![tactic(auto)]
 
 mod away;

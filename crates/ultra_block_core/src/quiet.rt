@@ -39,7 +39,8 @@ fn are_elements_quiet(entries: &[Option<ProcessingElement>]) -> bool
 }
 
 impl Block {
-    /// Whether one of its processing elements has yet to stop. Then the block isn't quiet. This first look reads only a few words.
+    /// Whether one of its processing elements has yet to stop. Then the block isn't quiet. This
+    /// first look reads only a few words.
     #[inline(always)]
     pub fn is_stepping(&self) -> bool
         ensures value { result ≡ list_any (if_here is_running) self.now.elements }
@@ -48,7 +49,9 @@ impl Block {
         !self.sets.running.is_empty()
     }
 
-    /// Whether each of its units is quiet: nothing is in its switches and modules, and its processing elements have stopped and wait for nothing. It looks no further than the first that isn't.
+    /// Whether each of its units is quiet: nothing is in its switches and modules, and its
+    /// processing elements have stopped and wait for nothing. It looks no further than the first
+    /// that isn't.
     pub fn is_quiet(&self) -> bool
         ensures { result ≡ quiet_block self.now }
     {

@@ -6,12 +6,14 @@ use crate::block::Block;
 use ultra_switch::Ports;
 use ultra_topology::UnitSet;
 
-/// Where there is no room for the messages that may come in a cycle, noted before a half that sends. Nothing is sent there.
+/// Where there is no room for the messages that may come in a cycle, noted before a half that
+/// sends. Nothing is sent there.
 #[derive(Clone, Copy, Drop)]
 pub struct Rooms {
     /// Switches without room for replies.
     pub(crate) no_reply_room: UnitSet,
-    /// By the memory-side port, switches whose queue there has no room for requests. In `zero` also the modules whose register holds one.
+    /// By the memory-side port, switches whose queue there has no room for requests. In `zero` also
+    /// the modules whose register holds one.
     pub(crate) no_request_room: Ports<UnitSet>,
 }
 
@@ -34,7 +36,8 @@ impl Rooms {
 }
 
 impl Block {
-    /// Notes which of its switches, queues and modules have no room. The blocks of a machine do so sequentially, and the first begins with `Rooms::all_open`.
+    /// Notes which of its switches, queues and modules have no room. The blocks of a machine do so
+    /// sequentially, and the first begins with `Rooms::all_open`.
     #[inline(always)]
     pub fn rooms(&self, rooms: &mut Rooms)
         ensures { HasNoted self.now rooms.old rooms.new }

@@ -17,7 +17,8 @@ use ultra_topology::{
 use ultra_unit_steps::modules;
 use ultra_unit_steps::replies::send_head_if;
 
-/// Whether replies may go on from a switch, as `find_reply_ways` says. Where all switches are `OPEN`, they always may.
+/// Whether replies may go on from a switch, as `find_reply_ways` says. Where all switches are
+/// `OPEN`, they always may.
 #[inline(always)]
 fn may_go<const OPEN: bool>(
     closed: &UnitSet,
@@ -37,7 +38,8 @@ fn may_go<const OPEN: bool>(
     }
 }
 
-/// The first reply of each queue of a switch goes onto its link, where there is a way to the unit in `targets`. Port 0 finishes before port 1 starts.
+/// The first reply of each queue of a switch goes onto its link, where there is a way to the unit
+/// in `targets`. Port 0 finishes before port 1 starts.
 #[inline(always)]
 fn send_from_switch<const OPEN: bool>(
     switch: &mut Switch,
@@ -77,7 +79,9 @@ impl Block {
         self.stops.clear();
     }
 
-    /// Sends replies, but to no switch in `closed`: those have no room. The code is compiled once for `SMALL` machines, and once for all others; and for both once more for where no switch is closed, as most often. Where no unit holds a reply, that is the only test.
+    /// Sends replies, but to no switch in `closed`: those have no room. The code is compiled once
+    /// for `SMALL` machines, and once for all others; and for both once more for where no switch is
+    /// closed, as most often. Where no unit holds a reply, that is the only test.
     #[inline(always)]
     #[tactic(auto, using(ultra_topology::proofs::Readers::few_units, std::proofs::lemmas::Bool::Decides::nat_tests))]
     fn send_held_replies<const SMALL: bool>(&mut self, closed: &UnitSet)
@@ -108,7 +112,8 @@ impl Block {
         self.send_held_replies::<SMALL>(closed);
     }
 
-    /// The first half of a cycle: replies leave the switches and modules for where there is room, onto their links. What had happened in the cycle before is forgotten.
+    /// The first half of a cycle: replies leave the switches and modules for where there is room,
+    /// onto their links. What had happened in the cycle before is forgotten.
     #[inline(always)]
     pub fn send_replies(&mut self, rooms: &Rooms)
         ensures { self.new ≡ after_units (sends_replies rooms.now.no_reply_room) MOST_UNITS (without_events self.old) }
@@ -179,7 +184,8 @@ impl Block {
     }
 }
 
-/// A visit in which replies leave a unit. `closed` are the switches without room for replies. Where all are `OPEN`, there are none.
+/// A visit in which replies leave a unit. `closed` are the switches without room for replies. Where
+/// all are `OPEN`, there are none.
 #[derive(Clone, Copy, Drop)]
 struct SendReplies<'a, const SMALL: bool, const OPEN: bool> {
     closed: &'a UnitSet,

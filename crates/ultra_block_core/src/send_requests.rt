@@ -27,7 +27,8 @@ fn are_all_open<const SMALL: bool>(closed: &Ports<UnitSet>) -> bool
     closed.zero.is_empty_sized::<SMALL>() && closed.one.is_empty_sized::<SMALL>()
 }
 
-/// Whether the first request of a queue may go on, as `has_request_way` says. Where all units are `OPEN`, it always may.
+/// Whether the first request of a queue may go on, as `has_request_way` says. Where all units are
+/// `OPEN`, it always may.
 #[inline(always)]
 fn may_go<const OPEN: bool>(
     net: Net,
@@ -47,7 +48,8 @@ fn may_go<const OPEN: bool>(
     }
 }
 
-/// Whether the first request of a processing element may go on, as `has_way_from_element` says. Where all units are `OPEN`, it always may.
+/// Whether the first request of a processing element may go on, as `has_way_from_element` says.
+/// Where all units are `OPEN`, it always may.
 #[inline(always)]
 fn may_leave<const OPEN: bool>(
     net: Net,
@@ -65,7 +67,8 @@ fn may_leave<const OPEN: bool>(
     }
 }
 
-/// The first request of a queue of a switch of this stage goes onto its link, if there is a way to the unit `target`, to which the link leads. Answers whether it goes.
+/// The first request of a queue of a switch of this stage goes onto its link, if there is a way to
+/// the unit `target`, to which the link leads. Answers whether it goes.
 #[inline(always)]
 fn send_from_queue<const OPEN: bool>(
     queue: &mut ToMm,
@@ -88,7 +91,8 @@ fn send_from_queue<const OPEN: bool>(
     goes
 }
 
-/// The first request of each queue of a switch goes onto its link, where there is a way to the unit in `targets`. Port 0 finishes before port 1 starts. Answers whether any goes.
+/// The first request of each queue of a switch goes onto its link, where there is a way to the unit
+/// in `targets`. Port 0 finishes before port 1 starts. Answers whether any goes.
 #[inline(always)]
 fn send_from_switch<const OPEN: bool>(
     switch: &mut Switch,
@@ -120,7 +124,10 @@ fn send_from_switch<const OPEN: bool>(
 }
 
 impl Block {
-    /// Sends requests, but to no unit in `closed`: by the memory-side port, those have no room. The code is compiled once for `SMALL` machines, and once for all others; and for both once more for where no unit is closed, as most often. Where no unit holds a request, that is the only test.
+    /// Sends requests, but to no unit in `closed`: by the memory-side port, those have no room. The
+    /// code is compiled once for `SMALL` machines, and once for all others; and for both once more
+    /// for where no unit is closed, as most often. Where no unit holds a request, that is the only
+    /// test.
     #[inline(always)]
     #[tactic(auto, using(ultra_topology::proofs::Readers::few_units, std::proofs::lemmas::Bool::Decides::nat_tests))]
     fn send_requests_sized<const SMALL: bool>(&mut self, closed: &Ports<UnitSet>)
@@ -140,7 +147,8 @@ impl Block {
         }
     }
 
-    /// The fourth half of a cycle: requests leave the switches and processing elements for where there is room, onto their links.
+    /// The fourth half of a cycle: requests leave the switches and processing elements for where
+    /// there is room, onto their links.
     #[inline(always)]
     pub fn send_requests(&mut self, rooms: &Rooms)
         ensures { self.new ≡ after_units (sends_requests rooms.now.no_request_room) MOST_UNITS self.old }
@@ -213,7 +221,8 @@ impl Block {
     }
 }
 
-/// A visit in which requests leave a unit. `closed` are, by the memory-side port, the units without room for requests. Where all are `OPEN`, there are none.
+/// A visit in which requests leave a unit. `closed` are, by the memory-side port, the units without
+/// room for requests. Where all are `OPEN`, there are none.
 #[derive(Clone, Copy, Drop)]
 struct SendRequests<'a, const SMALL: bool, const OPEN: bool> {
     closed: &'a Ports<UnitSet>,

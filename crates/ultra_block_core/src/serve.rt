@@ -10,7 +10,8 @@ use ultra_topology::{UnitNumber, UnitSet, Visit, visit_all};
 use ultra_unit_steps::append;
 
 impl Block {
-    /// The third half of a cycle: each module serves the request that waits, if no reply is in its way.
+    /// The third half of a cycle: each module serves the request that waits, if no reply is in its
+    /// way.
     #[inline(always)]
     pub fn serve(&mut self)
         requires { (k : ℕ) → k < MOST_UNITS → HasEventRoom k self.old }

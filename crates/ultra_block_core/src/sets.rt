@@ -9,7 +9,8 @@ use ultra_switch::{Ports, Switch};
 use ultra_topology::{UnitNumber, UnitSet};
 use ultra_unit_steps::{ProcessingElement, modules, switches};
 
-/// What is known of the units of a block, as sets of their numbers. Each is exactly the set of the units for which it is true.
+/// What is known of the units of a block, as sets of their numbers. Each is exactly the set of the
+/// units for which it is true.
 #[derive(Drop)]
 pub(crate) struct Sets {
     /// The units of the block.
@@ -18,9 +19,11 @@ pub(crate) struct Sets {
     pub(crate) holds_replies: UnitSet,
     /// Switches without room for the replies that may come in a cycle.
     pub(crate) no_reply_room: UnitSet,
-    /// Units that hold a request: switches and processing elements one to send, modules one to serve.
+    /// Units that hold a request: switches and processing elements one to send, modules one to
+    /// serve.
     pub(crate) holds_requests: UnitSet,
-    /// By the memory-side port, switches whose queue there has no room for the requests that may come in a cycle. In `zero` also the modules whose register holds one.
+    /// By the memory-side port, switches whose queue there has no room for the requests that may
+    /// come in a cycle. In `zero` also the modules whose register holds one.
     pub(crate) no_request_room: Ports<UnitSet>,
     /// Modules that hold a request and no reply.
     pub(crate) to_serve: UnitSet,
@@ -130,7 +133,8 @@ impl Sets {
         }
     }
 
-    /// Notes what is true of a switch of the block, once replies have come to it. It keeps no record that it didn't keep before.
+    /// Notes what is true of a switch of the block, once replies have come to it. It keeps no
+    /// record that it didn't keep before.
     #[inline(always)]
     pub(crate) fn note_switch_took_replies(&mut self, unit: UnitNumber, switch: &Switch)
         ensures { AreNoted unit (λ f. record (replies_noted ◌||◌ switch.now f) { keeps_records = f.keeps_records && keeps_records switch.now }) self.old self.new }
@@ -145,7 +149,8 @@ impl Sets {
         }
     }
 
-    /// Notes what is true of a switch of the block, once requests have come to it. Unless its records `may_differ`, they are noted already.
+    /// Notes what is true of a switch of the block, once requests have come to it. Unless its
+    /// records `may_differ`, they are noted already.
     #[inline(always)]
     pub(crate) fn note_switch_took_requests(
         &mut self,

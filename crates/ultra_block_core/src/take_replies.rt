@@ -13,7 +13,8 @@ use ultra_topology::{Links, Unit, UnitNumber, UnitSet, Visit, take_for_element, 
 use ultra_unit_steps::append;
 use ultra_unit_steps::replies::take_reply;
 
-/// What comes to a switch by its links `inlets` goes through its wait buffers into its queues. Port 0 finishes before port 1 starts.
+/// What comes to a switch by its links `inlets` goes through its wait buffers into its queues. Port
+/// 0 finishes before port 1 starts.
 #[inline(always)]
 #[tactic(auto, using(ultra_topology::proofs::Marks::emptied, ultra_topology::proofs::Marks::emptied_first))]
 fn take_into_switch(
@@ -41,7 +42,8 @@ fn take_into_switch(
 }
 
 impl Block {
-    /// The second half of a cycle: the replies on links that lead to units here are split and go on in switches, and are delivered to processing elements.
+    /// The second half of a cycle: the replies on links that lead to units here are split and go on
+    /// in switches, and are delivered to processing elements.
     #[inline(always)]
     pub fn take_replies(&mut self)
         requires { (k : ℕ) → k < MOST_UNITS → CanTakeRepliesAt k self.old }

@@ -15,7 +15,10 @@ use ultra_topology::{
 use ultra_unit_steps::modules;
 use ultra_unit_steps::requests::{is_turned, put_in_order, take_request};
 
-/// What comes to a switch by two links goes into its queues, where it may combine. The request on the first link of `in_turn` is taken in before that on the second. Combinations are appended to `events`: by position, and at one position in the order of the arrivals. Answers whether there are any.
+/// What comes to a switch by two links goes into its queues, where it may combine. The request on
+/// the first link of `in_turn` is taken in before that on the second. Combinations are appended to
+/// `events`: by position, and at one position in the order of the arrivals. Answers whether there
+/// are any.
 #[inline(always)]
 fn take_into_switch(
     switch: &mut Switch,
@@ -54,7 +57,8 @@ fn take_into_switch(
 }
 
 impl Block {
-    /// The fifth half of a cycle: takes the requests on links that lead to units here. They go into the queues of switches, where they may combine, and into the registers of modules.
+    /// The fifth half of a cycle: takes the requests on links that lead to units here. They go into
+    /// the queues of switches, where they may combine, and into the registers of modules.
     #[inline(always)]
     pub fn take_requests(&mut self)
         requires { (k : ℕ) → k < MOST_UNITS → CanTakeRequestsAt k self.old }
@@ -76,7 +80,8 @@ impl Block {
         visit_all::<SMALL, Block, TakeRequests<SMALL>>(&TakeRequests, self);
     }
 
-    /// What comes to a switch goes into its queues, where it may combine: port 0 goes first in even cycles, port 1 in odd ones.
+    /// What comes to a switch goes into its queues, where it may combine: port 0 goes first in even
+    /// cycles, port 1 in odd ones.
     fn take_requests_of_switch<const SMALL: bool>(
         &mut self,
         unit: UnitNumber,

@@ -16,7 +16,8 @@ use std::marker::{Brand, Model};
 pub enum BoardFault {
     /// The memory for the words was refused.
     NoMemory,
-    /// There are more than 1,000,000 numbers, or the bound or the seats aren't from 1 to 64; or the seat has one place, which can't be split.
+    /// There are more than 1,000,000 numbers, or the bound or the seats aren't from 1 to 64; or the
+    /// seat has one place, which can't be split.
     BadLimit,
 }
 
@@ -30,7 +31,8 @@ impl From<AllocError> for BoardFault {
     }
 }
 
-/// A board of three words, on which the seats step (this project's profile). Threads share it by reference.
+/// A board of three words, on which the seats step (this project's profile). Threads share it by
+/// reference.
 ///
 /// Contracts see which board it is, and what it was opened with.
 #[derive(Drop)]
@@ -47,9 +49,12 @@ impl Model for Board {
 }
 
 impl Board {
-    /// A board of the numbers below `limit`, and its first seat. `limit` is at most 1,000,000. `bound`, from 1 to 64, is the maximum number of passes held at once. The seat counts for `seats` places, from 1 to 64.
+    /// A board of the numbers below `limit`, and its first seat. `limit` is at most 1,000,000.
+    /// `bound`, from 1 to 64, is the maximum number of passes held at once. The seat counts for
+    /// `seats` places, from 1 to 64.
     ///
-    /// `BadLimit` is found before memory is asked for. `NoMemory` comes only where the memory for the words was refused.
+    /// `BadLimit` is found before memory is asked for. `NoMemory` comes only where the memory for
+    /// the words was refused.
     pub fn open(
         alloc: Global,
         limit: u64,
@@ -83,7 +88,8 @@ impl Board {
         Ok((Board { words }, seat))
     }
 
-    /// Splits a seat of this board in two: the second has one place and nothing else, the first keeps the rest. A spent seat makes two spent ones.
+    /// Splits a seat of this board in two: the second has one place and nothing else, the first
+    /// keeps the rest. A spent seat makes two spent ones.
     ///
     /// A seat with one place comes back as it was, with `BadLimit`. No memory is taken.
     pub fn split(&self, seat: Seat) -> Result<(Seat, Seat), (Seat, BoardFault)>
@@ -122,7 +128,8 @@ impl Board {
         Ok((first, second))
     }
 
-    /// Joins two seats of this board to one that knows and has what both did. It is spent if either was. No number was drawn by both, or twice by one.
+    /// Joins two seats of this board to one that knows and has what both did. It is spent if either
+    /// was. No number was drawn by both, or twice by one.
     pub fn join(&self, seat: Seat, other: Seat) -> Seat
         requires seat { seat.board ≡ self.now.id }
         requires other { other.board ≡ self.now.id }
@@ -154,7 +161,8 @@ impl Board {
         }
     }
 
-    /// Draws the next number, which no seat of this board has drawn before. `None` says that no number was left, and from then on this seat is spent: it answers `None` without a step.
+    /// Draws the next number, which no seat of this board has drawn before. `None` says that no
+    /// number was left, and from then on this seat is spent: it answers `None` without a step.
     pub fn draw(&self, seat: &mut Seat) -> Option<u64>
         requires { seat.old.board ≡ self.now.id }
         ensures number { IfSome result (λ i. seat.new ≡ record seat.old { view = record seat.old.view { drawn = seat.old.view.drawn ++ i ∷ []; claims = seat.old.view.claims + 1 } }) }
@@ -179,7 +187,8 @@ impl Board {
         }
     }
 
-    /// Finishes a number, which this seat drew and hasn't finished. The count of all numbers finished grows by one.
+    /// Finishes a number, which this seat drew and hasn't finished. The count of all numbers
+    /// finished grows by one.
     pub fn finish(&self, seat: &mut Seat, number: u64)
         requires board { seat.old.board ≡ self.now.id }
         requires drawn { Contains seat.old.view.drawn number }
@@ -191,7 +200,8 @@ impl Board {
         self.words.add_to_done::<Brand>(&mut seat.token, number);
     }
 
-    /// How many numbers all seats of this board have finished, at one moment of this call: no fewer than this seat found before, and no fewer than it finished itself.
+    /// How many numbers all seats of this board have finished, at one moment of this call: no fewer
+    /// than this seat found before, and no fewer than it finished itself.
     pub fn progress(&self, seat: &mut Seat) -> u64
         requires { seat.old.board ≡ self.now.id }
         ensures seen { seat.new ≡ record seat.old { view = record seat.old.view { seen = result; reads = seat.old.view.reads + 1 } } }
@@ -201,9 +211,11 @@ impl Board {
         self.words.load_done(&mut seat.token)
     }
 
-    /// Tries to take a pass, by a test, an increment and a retest, and says whether it did. The seat holds none yet.
+    /// Tries to take a pass, by a test, an increment and a retest, and says whether it did. The
+    /// seat holds none yet.
     ///
-    /// It loads the passes once and adds to them at most once. Where it takes none, it has found the passes at or above the bound, and nothing that it did is left.
+    /// It loads the passes once and adds to them at most once. Where it takes none, it has found
+    /// the passes at or above the bound, and nothing that it did is left.
     pub fn try_enter(&self, seat: &mut Seat) -> bool
         requires board { seat.old.board ≡ self.now.id }
         requires no_pass { seat.old.view.held ≡ 0 }

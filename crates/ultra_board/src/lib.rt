@@ -1,9 +1,15 @@
 //! A board from which many threads of the host draw jobs, without a lock.
 //!
-//! The board has three words. Claim counts the draws that asked it for a number, and is the next number to draw where it is below the limit. Done counts the numbers finished. Passes counts the passes held and the tries for one. Each thread acts on them through its own seat, by single atomic steps. Seats are split and joined.
-//! One rule holds between any two steps of all threads: `BoardRule`. By it each number below the limit is drawn at most once, and those below `min(claim, limit)` are drawn once. The numbers finished are counted, and no more passes are held than the bound allows.
+//! The board has three words. Claim counts the draws that asked it for a number, and is the next
+//! number to draw where it is below the limit. Done counts the numbers finished. Passes counts the
+//! passes held and the tries for one. Each thread acts on them through its own seat, by single
+//! atomic steps. Seats are split and joined. One rule holds between any two steps of all threads:
+//! `BoardRule`. By it each number below the limit is drawn at most once, and those below
+//! `min(claim, limit)` are drawn once. The numbers finished are counted, and no more passes are
+//! held than the bound allows.
 //!
-//! No contract says which seat draws what, in which order seats step, or whether a pass is ever free.
+//! No contract says which seat draws what, in which order seats step, or whether a pass is ever
+//! free.
 #![tactic(auto)]
 
 mod board;

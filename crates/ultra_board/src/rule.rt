@@ -1,6 +1,8 @@
-//! The rule of a board's table: what a seat knows, and what the seat that steps learns from each kind of atomic step.
+//! The rule of a board's table: what a seat knows, and what the seat that steps learns from each
+//! kind of atomic step.
 //!
-//! A table's rule is a fact over its words and the views of all seats, which every step has to keep. So it holds between any two steps, however the threads take turns.
+//! A table's rule is a fact over its words and the views of all seats, which every step has to
+//! keep. So it holds between any two steps, however the threads take turns.
 
 ghost use Rattle.std.specs.Prelude.{ℕ};
 
@@ -19,7 +21,8 @@ pub struct Limits {
     pub seats: u64,
 }
 
-/// What a seat knows. It is only in contracts: no value of it is made, and no word of the program holds its counts.
+/// What a seat knows. It is only in contracts: no value of it is made, and no word of the program
+/// holds its counts.
 pub struct View {
     /// The numbers drawn, in their order.
     pub drawn: LinkedList<u64>,
@@ -41,7 +44,8 @@ pub struct View {
     pub spent: bool,
     /// The passes held.
     pub held: u64,
-    /// The tries for a pass that are under way: an add that went past the bound, and isn't undone yet.
+    /// The tries for a pass that are under way: an add that went past the bound, and isn't undone
+    /// yet.
     pub tries: u64,
     /// The board's limit.
     pub limit: u64,

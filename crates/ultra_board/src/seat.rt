@@ -3,9 +3,12 @@
 use crate::words::Token;
 use std::marker::Model;
 
-/// A seat at a board, with which one thread draws numbers, finishes them and takes passes. It may go to another thread.
+/// A seat at a board, with which one thread draws numbers, finishes them and takes passes. It may
+/// go to another thread.
 ///
-/// It counts for 1 to 64 places. Contracts see which board it is of and what it knows (`View`). A seat that is joined to another or that closes its board is used up. One that is dropped keeps its numbers, its passes and its places.
+/// It counts for 1 to 64 places. Contracts see which board it is of and what it knows (`View`). A
+/// seat that is joined to another or that closes its board is used up. One that is dropped keeps
+/// its numbers, its passes and its places.
 #[derive(Drop)]
 pub struct Seat {
     pub(crate) token: Token,

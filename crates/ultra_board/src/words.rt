@@ -1,4 +1,5 @@
-//! The three words of a board, and each kind of atomic step on them. Here, and nowhere else, a word is touched.
+//! The three words of a board, and each kind of atomic step on them. Here, and nowhere else, a word
+//! is touched.
 ghost use Rattle.std.specs.Prelude.{◌≡◌, ◌+◌, ◌-◌, ◌<◌, ◌≤◌, false, [], IfOk, Contains};
 ghost use Rattle.ultra_board.specs.Rule.{IsWithinLimits};
 ghost use Rattle.ultra_board.specs.Seat.{IsTotal};
@@ -13,7 +14,8 @@ use atomic_table::{Seat, Table};
 use std::alloc::{AllocError, Global};
 use std::marker::Model;
 
-/// The word that counts the draws that asked for a number; below the limit it is the next number to draw.
+/// The word that counts the draws that asked for a number; below the limit it is the next number to
+/// draw.
 const CLAIM: usize = 0;
 
 /// The word that is the count of the numbers finished.
@@ -36,7 +38,8 @@ pub struct Totals {
     pub passes: u64,
 }
 
-/// The words, under the board's rule. Contracts see which board's they are, and what that was opened with.
+/// The words, under the board's rule. Contracts see which board's they are, and what that was
+/// opened with.
 #[derive(Drop)]
 pub(crate) struct BoardWords {
     table: Table<u64, View, Limits, BoardRule, Global>,
@@ -75,7 +78,8 @@ impl BoardWords {
         self.table.shared.fetch_add::<AddToClaim>(token, CLAIM, 1)
     }
 
-    /// Adds 1 to done, which finishes the number, and gives the value before it. The type parameter N names the number.
+    /// Adds 1 to done, which finishes the number, and gives the value before it. The type parameter
+    /// N names the number.
     pub(crate) fn add_to_done<N: Number>(&self, token: &mut Token, number: u64) -> u64
         requires board { token.old.table_id ≡ self.now.id }
         requires drawn { Contains token.old.me.0.drawn number }

@@ -1,4 +1,5 @@
-//! The laws of the coordination programs, and of a ticket counter, on the paracomputer: each holds after every schedule.
+//! The laws of the coordination programs, and of a ticket counter, on the paracomputer: each holds
+//! after every schedule.
 //!
 //! The gate's test, increment and retest are the 1983 paper's; the programs are this project's.
 
@@ -31,27 +32,27 @@ pub fn ticket_rounds_law()
     ensures all_drawn { AllDrawnLaw }
 {}
 
-/// The gate's law, as this function's contract: at most `bound` processing elements are inside at once, after every
-/// schedule. The function itself does nothing.
+/// The gate's law, as this function's contract: at most `bound` processing elements are inside at
+/// once, after every schedule. The function itself does nothing.
 pub fn gate_law()
     ensures kept { GateLaw }
 {}
 
-/// The law of the readers and writers, as this function's contract: where a writer is inside, nobody else is, after
-/// every schedule. The function itself does nothing.
+/// The law of the readers and writers, as this function's contract: where a writer is inside,
+/// nobody else is, after every schedule. The function itself does nothing.
 pub fn readers_writers_law()
     ensures kept { ReadersWritersLaw }
 {}
 
-/// The barrier's law, as this function's contract: nobody has finished more rounds than anybody has begun, after every
-/// schedule. The function itself does nothing.
+/// The barrier's law, as this function's contract: nobody has finished more rounds than anybody has
+/// begun, after every schedule. The function itself does nothing.
 pub fn barrier_law()
     ensures kept { BarrierLaw }
 {}
 
-/// The queue's law, as this function's contract: after every schedule the results that aren't 0 are pairwise different
-/// inserted values. Each has its own ticket, which was drawn from both indexes. A program that only stores such
-/// numbers doesn't keep the law. The function itself does nothing.
+/// The queue's law, as this function's contract: after every schedule the results that aren't 0 are
+/// pairwise different inserted values. Each has its own ticket, which was drawn from both indexes.
+/// A program that only stores such numbers doesn't keep the law. The function itself does nothing.
 pub fn queue_law()
     ensures kept { QueueLaw }
     ensures needs_inserts { IsNoQueueRefused }

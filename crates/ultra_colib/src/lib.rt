@@ -1,4 +1,5 @@
-//! The coordination library: programs in which processing elements coordinate by fetch-and-add, and the laws that they keep whatever the schedule.
+//! The coordination library: programs in which processing elements coordinate by fetch-and-add, and
+//! the laws that they keep whatever the schedule.
 #![tactic(auto)]
 
 mod fault;
@@ -17,9 +18,9 @@ pub use programs::{barrier_program, gate_program, queue_program, rw_program, tic
 pub use runs::{run_barrier, run_gate, run_queue, run_rw};
 use ultra_para::paracomputer_law;
 
-/// The law of coordination, as this function's contract: the machine's cells keep the law of each coordination program
-/// that it runs. It holds for all settings in their ranges without initial values, all parameters and every number of
-/// cycles. The function itself does nothing.
+/// The law of coordination, as this function's contract: the machine's cells keep the law of each
+/// coordination program that it runs. It holds for all settings in their ranges without initial
+/// values, all parameters and every number of cycles. The function itself does nothing.
 pub fn coordination_law()
     ensures kept { CoordinationLaw }
 {

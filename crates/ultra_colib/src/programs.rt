@@ -47,9 +47,11 @@ fn assembled(alloc: Global, text: &str) -> Result<Program, ColibFault>
     }
 }
 
-/// The gate: at most `bound` processing elements, 1 to 64, are inside at once, each `rounds` times, 1 to 1000.
+/// The gate: at most `bound` processing elements, 1 to 64, are inside at once, each `rounds` times,
+/// 1 to 1000.
 ///
-/// Cell 0 is the count; cell `8 + p` is 1 while processing element p is inside. Its test, increment and retest are the 1983 paper's.
+/// Cell 0 is the count; cell `8 + p` is 1 while processing element p is inside. Its test, increment
+/// and retest are the 1983 paper's.
 pub fn gate_program(alloc: Global, bound: u32, rounds: u32) -> Result<Program, ColibFault>
     ensures program { IfOk result (λ p. p ≡ gate bound rounds) }
     ensures text { IfOk result (IsProgramText (text_of_gate bound rounds)) }
@@ -63,9 +65,11 @@ pub fn gate_program(alloc: Global, bound: u32, rounds: u32) -> Result<Program, C
     assembled(alloc, text.as_str())
 }
 
-/// Readers and writers: the first `writers` processing elements, 0 to 64, write, the others read, each `rounds` times, 1 to 1000.
+/// Readers and writers: the first `writers` processing elements, 0 to 64, write, the others read,
+/// each `rounds` times, 1 to 1000.
 ///
-/// Cell 0 counts a reader as 1 and a writer as 65536; cell `8 + p` is 1 while processing element p is inside as a reader, 2 while as a writer.
+/// Cell 0 counts a reader as 1 and a writer as 65536; cell `8 + p` is 1 while processing element p
+/// is inside as a reader, 2 while as a writer.
 pub fn rw_program(alloc: Global, writers: u32, rounds: u32) -> Result<Program, ColibFault>
     ensures program { IfOk result (λ p. p ≡ readers_writers writers rounds) }
     ensures text { IfOk result (IsProgramText (text_of_rw writers rounds)) }
@@ -81,7 +85,8 @@ pub fn rw_program(alloc: Global, writers: u32, rounds: u32) -> Result<Program, C
 
 /// The barrier, which all processing elements pass `rounds` times, 1 to 1000.
 ///
-/// Cell 0 counts the arrivals; with N processing elements, cell `8 + p` is the rounds that processing element p has begun, and cell `8 + N + p` those that it has finished.
+/// Cell 0 counts the arrivals; with N processing elements, cell `8 + p` is the rounds that
+/// processing element p has begun, and cell `8 + N + p` those that it has finished.
 pub fn barrier_program(alloc: Global, rounds: u32) -> Result<Program, ColibFault>
     ensures program { IfOk result (λ p. p ≡ barrier rounds) }
     ensures text { IfOk result (IsProgramText (text_of_barrier rounds)) }
@@ -95,9 +100,12 @@ pub fn barrier_program(alloc: Global, rounds: u32) -> Result<Program, ColibFault
     assembled(alloc, text.as_str())
 }
 
-/// The queue with `2^log_size` places, `log_size` being 0 to 6: each processing element inserts an item and deletes one, `rounds` times, 1 to 1000.
+/// The queue with `2^log_size` places, `log_size` being 0 to 6: each processing element inserts an
+/// item and deletes one, `rounds` times, 1 to 1000.
 ///
-/// Cells 0 and 1 are the upper and the lower count of items, cells 2 and 3 the insert index and the delete index. With Z places, cell `8 + i` is the turn word of place i, and cell `8 + Z + i` its data. The results are in the cells from `8 + 2 * Z` on.
+/// Cells 0 and 1 are the upper and the lower count of items, cells 2 and 3 the insert index and the
+/// delete index. With Z places, cell `8 + i` is the turn word of place i, and cell `8 + Z + i` its
+/// data. The results are in the cells from `8 + 2 * Z` on.
 pub fn queue_program(alloc: Global, log_size: u32, rounds: u32) -> Result<Program, ColibFault>
     ensures program { IfOk result (λ p. p ≡ queue log_size rounds) }
     ensures text { IfOk result (IsProgramText (text_of_queue log_size rounds)) }

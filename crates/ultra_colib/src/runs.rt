@@ -51,9 +51,11 @@ fn run(
     Ok(para)
 }
 
-/// The gate on a paracomputer with these settings, all of whose cells are 0 at first, after a schedule: each number is the processing element that makes the step.
+/// The gate on a paracomputer with these settings, all of whose cells are 0 at first, after a
+/// schedule: each number is the processing element that makes the step.
 ///
-/// At most `bound` processing elements are inside. `BadParameter` means that a parameter is out of its range or that cells have initial values.
+/// At most `bound` processing elements are inside. `BadParameter` means that a parameter is out of
+/// its range or that cells have initial values.
 pub fn run_gate(
     alloc: Global,
     config: &Config,
@@ -69,9 +71,11 @@ pub fn run_gate(
     run(alloc, config, gate_program(alloc, bound, rounds), schedule)
 }
 
-/// The readers and writers on a paracomputer with these settings, after a schedule. All cells are 0 at first. Each number of the schedule is the processing element that makes the step.
+/// The readers and writers on a paracomputer with these settings, after a schedule. All cells are 0
+/// at first. Each number of the schedule is the processing element that makes the step.
 ///
-/// Where a writer is inside, nobody else is. `BadParameter` means that a parameter is out of its range or that cells have initial values.
+/// Where a writer is inside, nobody else is. `BadParameter` means that a parameter is out of its
+/// range or that cells have initial values.
 pub fn run_rw(
     alloc: Global,
     config: &Config,
@@ -87,9 +91,11 @@ pub fn run_rw(
     run(alloc, config, rw_program(alloc, writers, rounds), schedule)
 }
 
-/// The barrier on a paracomputer with these settings, all of whose cells are 0 at first, after a schedule: each number is the processing element that makes the step.
+/// The barrier on a paracomputer with these settings, all of whose cells are 0 at first, after a
+/// schedule: each number is the processing element that makes the step.
 ///
-/// Nobody has finished more rounds than anybody has begun. `BadParameter` means that the rounds are out of their range or that cells have initial values.
+/// Nobody has finished more rounds than anybody has begun. `BadParameter` means that the rounds are
+/// out of their range or that cells have initial values.
 pub fn run_barrier(
     alloc: Global,
     config: &Config,
@@ -104,9 +110,11 @@ pub fn run_barrier(
     run(alloc, config, barrier_program(alloc, rounds), schedule)
 }
 
-/// The queue with `2^log_size` places on a paracomputer with these settings, after a schedule. All cells are 0 at first. Each number of the schedule is the processing element that makes the step.
+/// The queue with `2^log_size` places on a paracomputer with these settings, after a schedule. All
+/// cells are 0 at first. Each number of the schedule is the processing element that makes the step.
 ///
-/// The results that aren't 0 are pairwise different inserted values, each with its own ticket. `BadParameter` means that a parameter is out of its range or that cells have initial values.
+/// The results that aren't 0 are pairwise different inserted values, each with its own ticket.
+/// `BadParameter` means that a parameter is out of its range or that cells have initial values.
 pub fn run_queue(
     alloc: Global,
     config: &Config,

@@ -41,9 +41,9 @@ impl ThirdFile for ListedEntries {
     }
 }
 
-/// Reads settings, a program and a list, and writes to `out` the line that says whether the list is a
-/// serial order of the run, or else its first breach. Each file is accepted before the next is read,
-/// and all before a byte is written. `NotLegal` says that the list isn't one.
+/// Reads settings, a program and a list, and writes to `out` the line that says whether the list is
+/// a serial order of the run, or else its first breach. Each file is accepted before the next is
+/// read, and all before a byte is written. `NotLegal` says that the list isn't one.
 pub(crate) fn check<'p, F: Source, O: Sink>(
     alloc: Global,
     settings_path: &'p str,

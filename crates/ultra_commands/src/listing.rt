@@ -15,8 +15,8 @@ use ultra_msg::Sink;
 use ultra_para::first_unfenced;
 
 /// Reads a program and writes its canonical text to `out`. The file is accepted before a byte is
-/// written. With `careful` the program is judged after that: `NotFenced` names its first instruction
-/// that refers to a cell and isn't directly followed by `fence`.
+/// written. With `careful` the program is judged after that: `NotFenced` names its first
+/// instruction that refers to a cell and isn't directly followed by `fence`.
 pub(crate) fn list<'p, F: Source, O: Sink>(
     alloc: Global,
     program_path: &'p str,
@@ -48,8 +48,8 @@ pub(crate) fn list<'p, F: Source, O: Sink>(
     }
 }
 
-/// The first instruction of a program that isn't followed by its fence, if that is asked and there is
-/// one.
+/// The first instruction of a program that isn't followed by its fence, if that is asked and there
+/// is one.
 fn unfenced_if(program: &Program, careful: bool) -> Option<usize>
     ensures some { IfSome result (λ k. (careful ≡ true) × IsFirstUnfenced program.now k) }
     ensures none { is_none result ≡ true → careful ≡ true → is_careful program.now ≡ true }

@@ -84,8 +84,8 @@ impl RunOutput for SeededRun {
 /// the schedule, and writes to `out` what its steps did, and how it ended. Each file is accepted
 /// before the next is read, and all before a byte is written.
 ///
-/// An error says what failed. `out` has then taken a prefix of the text, and nothing where a file was
-/// refused.
+/// An error says what failed. `out` has then taken a prefix of the text, and nothing where a file
+/// was refused.
 pub(crate) fn para<'p, F: Source, O: Sink>(
     alloc: Global,
     settings_path: &'p str,

@@ -37,8 +37,8 @@ pub(crate) trait RunOutput {
             (λ f. S.failures sink.new ≡ S.failures sink.old + write_failures f) };
 }
 
-/// Reads settings and a program, and writes a text of the run to `out`. Each file is accepted before
-/// the next is read, and both before a byte is written.
+/// Reads settings and a program, and writes a text of the run to `out`. Each file is accepted
+/// before the next is read, and both before a byte is written.
 ///
 /// What is held doesn't grow with the run. An error says what failed. `out` has then taken a prefix
 /// of the text, and nothing where a file was refused.

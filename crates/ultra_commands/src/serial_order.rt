@@ -35,7 +35,8 @@ impl RunOutput for SerialOrder {
     }
 }
 
-/// Writes the lines of the serial order of a run, as the run goes: what is held doesn't grow with it.
+/// Writes the lines of the serial order of a run, as the run goes: what is held doesn't grow with
+/// it.
 fn order_run<'p, O: Sink>(
     alloc: Global,
     config: &Config,
@@ -74,8 +75,8 @@ fn write_order<'p, O: Sink>(run: &mut OrderedRun, out: &mut O) -> Result<(), Fai
     }
 }
 
-/// Makes a run from its start to its end, and puts the lines of its serial order in a buffer. It ends
-/// early where the sink of the buffer fails. An error says that memory was refused.
+/// Makes a run from its start to its end, and puts the lines of its serial order in a buffer. It
+/// ends early where the sink of the buffer fails. An error says that memory was refused.
 fn put_order<O: Sink>(
     buffer: &mut TextBuffer<'_, O>,
     run: &mut OrderedRun,

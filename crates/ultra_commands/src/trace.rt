@@ -40,12 +40,12 @@ fn lines_asked(only: LineFilter) -> CycleLines
     }
 }
 
-/// Reads settings and a program, runs the program by `workers` threads and writes a part of its trace
-/// to `out`: the same bytes for every number of workers. Each file is accepted before the next is
-/// read, and both before a byte is written. The call may wait.
+/// Reads settings and a program, runs the program by `workers` threads and writes a part of its
+/// trace to `out`: the same bytes for every number of workers. Each file is accepted before the
+/// next is read, and both before a byte is written. The call may wait.
 ///
-/// An error says what failed. `out` has then taken a prefix of the part, and nothing where a file was
-/// refused.
+/// An error says what failed. `out` has then taken a prefix of the part, and nothing where a file
+/// was refused.
 pub(crate) fn run<'p, R: Threads + Wait + Sync, F: Source, O: Sink>(
     rt: &R,
     alloc: Global,
@@ -83,8 +83,8 @@ fn is_whole(part: &TracePart) -> bool
     part.from == 0 && part.to == MOST_CYCLES && part.lines == CycleLines::All
 }
 
-/// Runs a program by workers, and writes a part of its trace. The whole trace needs no look at which
-/// cycles are written.
+/// Runs a program by workers, and writes a part of its trace. The whole trace needs no look at
+/// which cycles are written.
 fn write_part<R: Threads + Wait + Sync, O: Sink>(
     rt: &R,
     alloc: Global,

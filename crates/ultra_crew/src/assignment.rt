@@ -11,7 +11,8 @@ use std::marker::{Model, PhantomData};
 use std::sync::Wait;
 use ultra_block_core::Rooms;
 
-/// The team of a worker for a half, and the rooms that were noted before it. The worker's results with them are the expected ones.
+/// The team of a worker for a half, and the rooms that were noted before it. The worker's results
+/// with them are the expected ones.
 #[derive(Drop)]
 pub(crate) struct Assignment<J: ExpectedResults> {
     pub(crate) name: AssignmentName,

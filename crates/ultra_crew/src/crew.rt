@@ -18,7 +18,8 @@ use ultra_block::Blocks;
 /// The most workers of a crew.
 pub const MOST_WORKERS: usize = 64;
 
-/// The machine makes one cycle, in the caller's thread. It is `Blocks::cycle`: it takes no memory and always succeeds.
+/// The machine makes one cycle, in the caller's thread. It is `Blocks::cycle`: it takes no memory
+/// and always succeeds.
 ///
 /// The machine's count of cycles has to be below `2^32 - 1`.
 pub fn cycle_alone(blocks: &mut Blocks)
@@ -32,11 +33,17 @@ pub fn cycle_alone(blocks: &mut Blocks)
 pub struct Crew;
 
 impl Crew {
-    /// The machine makes one cycle, each half of it by n workers, 1 to 64. The partition stays as it is, and the machine after the cycle is the same for every partition, every number of workers and every gate. Each of several workers has its own thread. The one whose number is `b` modulo the number of workers calls the gate and then makes the half for block `b`. A single worker is the caller's thread, and calls no gate.
+    /// The machine makes one cycle, each half of it by n workers, 1 to 64. The partition stays as
+    /// it is, and the machine after the cycle is the same for every partition, every number of
+    /// workers and every gate. Each of several workers has its own thread. The one whose number is
+    /// `b` modulo the number of workers calls the gate and then makes the half for block `b`. A
+    /// single worker is the caller's thread, and calls no gate.
     ///
-    /// The machine's count of cycles has to be below `2^32 - 1`. The call may wait. On every return path the threads that were started are joined.
+    /// The machine's count of cycles has to be below `2^32 - 1`. The call may wait. On every return
+    /// path the threads that were started are joined.
     ///
-    /// `NoThread` says that a thread could not be started or died before finishing, `NoMemory` that memory was refused; the blocks are then given up. With one worker the call succeeds.
+    /// `NoThread` says that a thread could not be started or died before finishing, `NoMemory` that
+    /// memory was refused; the blocks are then given up. With one worker the call succeeds.
     #[tactic(auto, using(crate::proofs::Counted::one_on))]
     pub fn cycle<R: Threads + Wait + Sync, G: Gate + Sync>(
         rt: &R,
@@ -54,11 +61,14 @@ impl Crew {
         Crew::cycles(rt, alloc, blocks, workers, gate, 1)
     }
 
-    /// The machine makes n cycles, each as by `cycle`, but the workers' threads are started once. With one worker the call succeeds.
+    /// The machine makes n cycles, each as by `cycle`, but the workers' threads are started once.
+    /// With one worker the call succeeds.
     ///
-    /// The machine's count of cycles has to be below `2^32` after these too. The call may wait. On every return path the threads that were started are joined.
+    /// The machine's count of cycles has to be below `2^32` after these too. The call may wait. On
+    /// every return path the threads that were started are joined.
     ///
-    /// `NoThread` says that a thread could not be started or died before finishing, `NoMemory` that memory was refused; the blocks are then given up.
+    /// `NoThread` says that a thread could not be started or died before finishing, `NoMemory` that
+    /// memory was refused; the blocks are then given up.
     pub fn cycles<R: Threads + Wait + Sync, G: Gate + Sync>(
         rt: &R,
         alloc: Global,
@@ -92,7 +102,8 @@ fn cycles_alone(blocks: &mut Blocks, count: u32)
     }
 }
 
-/// The machine, and how many of n workers have a block of it, the first ones; the others have none, and need no thread.
+/// The machine, and how many of n workers have a block of it, the first ones; the others have none,
+/// and need no thread.
 fn count_busy(blocks: Blocks, workers: usize) -> (Blocks, usize)
     requires { 1 ≤ workers }
     ensures same { result.0 ≡ blocks }
@@ -104,7 +115,8 @@ fn count_busy(blocks: Blocks, workers: usize) -> (Blocks, usize)
     (Blocks::of_parts(parts), busy)
 }
 
-/// The machine makes n cycles, whose halves are made by workers in their own threads. The threads are started here and joined at the end. Each of these workers that has a block gets a thread.
+/// The machine makes n cycles, whose halves are made by workers in their own threads. The threads
+/// are started here and joined at the end. Each of these workers that has a block gets a thread.
 fn cycles_together<J: ExpectedResults + Send, R: Threads + Wait + Sync, G: Gate + Sync>(
     rt: &R,
     alloc: Global,

@@ -25,7 +25,9 @@ pub struct BlockTask {
     block: Block,
 }
 
-/// A call of the gate that has returned, for a half of the block of this number. Only `BlockTask::call_gate` makes one, and only `BlockTask::make` takes it. So a half can't be made before the gate was called for it, and a call that no half follows doesn't compile.
+/// A call of the gate that has returned, for a half of the block of this number. Only
+/// `BlockTask::call_gate` makes one, and only `BlockTask::make` takes it. So a half can't be made
+/// before the gate was called for it, and a call that no half follows doesn't compile.
 pub(crate) struct GateCall {
     half: Half,
     number: usize,

@@ -8,7 +8,8 @@ use crate::task::BlockTask;
 use std::alloc::{AllocError, Global};
 use ultra_block_core::Block;
 
-/// A team for each of n workers, all empty, each with room for this number of tasks. An error says that memory was refused.
+/// A team for each of n workers, all empty, each with room for this number of tasks. An error says
+/// that memory was refused.
 pub fn empty_teams(
     alloc: Global,
     workers: usize,
@@ -24,7 +25,9 @@ pub fn empty_teams(
     Ok(teams)
 }
 
-/// Deals the blocks to the teams of the workers, which are empty: each block, with its number, goes to the worker of that number modulo the number of workers. Memory is asked for only where a team has no room. An error says that it was refused; some blocks are then given up.
+/// Deals the blocks to the teams of the workers, which are empty: each block, with its number, goes
+/// to the worker of that number modulo the number of workers. Memory is asked for only where a team
+/// has no room. An error says that it was refused; some blocks are then given up.
 pub fn deal_to_teams(
     blocks: &mut Vec<Block>,
     teams: &mut Vec<Vec<BlockTask>>,
@@ -44,7 +47,9 @@ pub fn deal_to_teams(
     Ok(())
 }
 
-/// Takes the blocks out of the teams to which n of them were dealt, and puts them into a list, in the order of their numbers: it undoes `deal_to_teams`. Memory is asked for only where the list has no room. An error says that it was refused; some blocks are then given up.
+/// Takes the blocks out of the teams to which n of them were dealt, and puts them into a list, in
+/// the order of their numbers: it undoes `deal_to_teams`. Memory is asked for only where the list
+/// has no room. An error says that it was refused; some blocks are then given up.
 pub fn collect_from_teams(
     teams: &mut Vec<Vec<BlockTask>>,
     blocks: &mut Vec<Block>,

@@ -27,7 +27,8 @@ use ultra_block_core::{Block, Half, Rooms};
 use ultra_model::Config;
 use ultra_partition::{MessageKind, note_rooms};
 
-/// Host workers at work. Each has its own thread, which is kept until the pool is stopped. In contracts a pool is the number of its workers.
+/// Host workers at work. Each has its own thread, which is kept until the pool is stopped. In
+/// contracts a pool is the number of its workers.
 #[derive(Drop)]
 pub struct WorkerPool<J: ExpectedResults> {
     threads: Vec<WorkerThread<J>>,
@@ -40,7 +41,10 @@ impl<J: ExpectedResults> Model for WorkerPool<J> {
 }
 
 impl<J: ExpectedResults> WorkerPool<J> {
-    /// Starts a thread for each of n workers. They make the halves of blocks of the machine whose expected results are `J`, and call this gate before each half of a block. Memory is asked for before the first thread is started. On every return path the threads that were started are joined: by `stop`, or here where one could not be started.
+    /// Starts a thread for each of n workers. They make the halves of blocks of the machine whose
+    /// expected results are `J`, and call this gate before each half of a block. Memory is asked
+    /// for before the first thread is started. On every return path the threads that were started
+    /// are joined: by `stop`, or here where one could not be started.
     ///
     /// `NoThread` says that a thread could not be started, `NoMemory` that memory was refused.
     pub fn start<'s, E, R: Threads + Wait + Sync, G: Gate + Sync>(
@@ -66,11 +70,16 @@ impl<J: ExpectedResults> WorkerPool<J> {
         stop_all(rt, threads);
     }
 
-    /// The machine makes one cycle, each half of it by the workers: that of number `b` modulo their number calls the gate and then makes the half for block `b`. The partition stays as it is, and the machine after the cycle is the same for every partition, every number of workers and every gate.
+    /// The machine makes one cycle, each half of it by the workers: that of number `b` modulo their
+    /// number calls the gate and then makes the half for block `b`. The partition stays as it is,
+    /// and the machine after the cycle is the same for every partition, every number of workers and
+    /// every gate.
     ///
-    /// The machine's count of cycles has to be below `2^32 - 1`. The pool has to be one that was started for the expected results of this machine. The call may wait.
+    /// The machine's count of cycles has to be below `2^32 - 1`. The pool has to be one that was
+    /// started for the expected results of this machine. The call may wait.
     ///
-    /// `NoMemory` says that memory was refused, and `NoThread` that a worker's thread is gone; the blocks are then given up.
+    /// `NoMemory` says that memory was refused, and `NoThread` that a worker's thread is gone; the
+    /// blocks are then given up.
     #[tactic(auto, using(ultra_block::proofs::Seen::cycles_are))]
     pub fn cycle<R: Wait>(&self, rt: &R, alloc: Global, blocks: Blocks) -> Result<Blocks, CrewFault>
         requires counted { blocks.machine.cycles < 2 ^ 32 - 1 }
@@ -116,7 +125,9 @@ impl<J: ExpectedResults> WorkerPool<J> {
         Ok(blocks)
     }
 
-    /// The blocks of a machine, which has made `done` cycles, make one more, each half of it in their workers' threads: replies, memory, requests, processors. Between the two halves of a phase each message goes to the block of the unit to which it leads.
+    /// The blocks of a machine, which has made `done` cycles, make one more, each half of it in
+    /// their workers' threads: replies, memory, requests, processors. Between the two halves of a
+    /// phase each message goes to the block of the unit to which it leads.
     fn make_cycle<R: Wait>(
         &self,
         rt: &R,
@@ -150,7 +161,8 @@ impl<J: ExpectedResults> WorkerPool<J> {
         Ok(blocks)
     }
 
-    /// Every block makes this half of the cycle, each in its worker's thread. The teams, to which the blocks are dealt for it, are empty before and after. A fault leaves no block.
+    /// Every block makes this half of the cycle, each in its worker's thread. The teams, to which
+    /// the blocks are dealt for it, are empty before and after. A fault leaves no block.
     fn make_half<R: Wait>(
         &self,
         rt: &R,
@@ -173,7 +185,8 @@ impl<J: ExpectedResults> WorkerPool<J> {
         Ok(blocks)
     }
 
-    /// Every block makes these two halves of the cycle in order, as by `make_half`; but the blocks are dealt once.
+    /// Every block makes these two halves of the cycle in order, as by `make_half`; but the blocks
+    /// are dealt once.
     fn make_two_halves<R: Wait>(
         &self,
         rt: &R,
@@ -198,7 +211,8 @@ impl<J: ExpectedResults> WorkerPool<J> {
         Ok(blocks)
     }
 
-    /// Sends each team to its worker's thread, which makes this half of all its blocks, and takes it back. A fault leaves none of them.
+    /// Sends each team to its worker's thread, which makes this half of all its blocks, and takes
+    /// it back. A fault leaves none of them.
     fn make_half_of_teams<R: Wait>(
         &self,
         rt: &R,
@@ -282,7 +296,9 @@ fn channels_for<J: ExpectedResults>(
     Ok(channels)
 }
 
-/// Starts a worker's thread over each of these channels, and puts it into a list that has room for all. It takes no memory: the only fault is `NoThread`, which says that one could not be started; those that were are joined then.
+/// Starts a worker's thread over each of these channels, and puts it into a list that has room for
+/// all. It takes no memory: the only fault is `NoThread`, which says that one could not be started;
+/// those that were are joined then.
 fn start_threads<'s, J: ExpectedResults + Send + 's, E, R: Threads + Wait + Sync, G: Gate + Sync>(
     scope: &Scope<'s, E>,
     rt: &'s R,

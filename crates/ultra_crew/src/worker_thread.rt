@@ -25,7 +25,8 @@ pub struct WorkerThread<J: ExpectedResults> {
     thread: JoinHandle<()>,
 }
 
-/// What a worker's thread holds until it is stopped: the channels by which assignments come and results go.
+/// What a worker's thread holds until it is stopped: the channels by which assignments come and
+/// results go.
 #[derive(Drop)]
 struct WorkerChannels<J: ExpectedResults> {
     assignments: Receiver<Assignment<J>>,
@@ -52,7 +53,8 @@ impl<J: ExpectedResults> Channels<J> {
     }
 }
 
-/// How often a thread looks for a message before it sleeps until one comes: for about the time that a half of a cycle takes.
+/// How often a thread looks for a message before it sleeps until one comes: for about the time that
+/// a half of a cycle takes.
 const LOOKS: u32 = 400;
 
 /// The next message, or `None` where none can come any more.
@@ -77,7 +79,8 @@ impl<J: ExpectedResults> WorkerChannels<J> {
         }
     }
 
-    /// Does the next assignment and gives its results back. `false` says that no more can come, or that nobody takes results any more.
+    /// Does the next assignment and gives its results back. `false` says that no more can come, or
+    /// that nobody takes results any more.
     fn serve_next<R: Wait, G: Gate>(&self, rt: &R, gate: &G) -> bool {
         match next(rt, &self.assignments) {
             Some(assignment) => {
@@ -107,7 +110,9 @@ impl<J: ExpectedResults> WorkerChannels<J> {
 }
 
 impl<J: ExpectedResults> WorkerThread<J> {
-    /// Starts a worker's thread over these channels. It makes halves of blocks, and calls this gate before each half of a block. It takes no memory: the only fault is `NoThread`, which says that the thread could not be started.
+    /// Starts a worker's thread over these channels. It makes halves of blocks, and calls this gate
+    /// before each half of a block. It takes no memory: the only fault is `NoThread`, which says
+    /// that the thread could not be started.
     pub fn start<'s, E, R: Threads + Wait + Sync, G: Gate + Sync>(
         scope: &Scope<'s, E>,
         rt: &'s R,
@@ -132,7 +137,9 @@ impl<J: ExpectedResults> WorkerThread<J> {
         })
     }
 
-    /// Gives the worker its team for the half of this name, and the rooms that were noted before it. The results have to be the expected ones. `NoMemory` says that memory was refused, `NoThread` that the thread is gone; the team is then given up.
+    /// Gives the worker its team for the half of this name, and the rooms that were noted before
+    /// it. The results have to be the expected ones. `NoMemory` says that memory was refused,
+    /// `NoThread` that the thread is gone; the team is then given up.
     pub fn send_team<R: Wait>(
         &self,
         rt: &R,
@@ -152,7 +159,8 @@ impl<J: ExpectedResults> WorkerThread<J> {
         Ok(self.assignments.send(rt, assignment)?)
     }
 
-    /// The team of this name after its half. Results of another name are dropped. `NoThread` says that the thread is gone.
+    /// The team of this name after its half. Results of another name are dropped. `NoThread` says
+    /// that the thread is gone.
     pub fn receive_team<R: Wait>(
         &self,
         rt: &R,

@@ -1,4 +1,5 @@
-//! Runs an algorithm under a thousand random schedules of the paracomputer, and then on the machine.
+//! Runs an algorithm under a thousand random schedules of the paracomputer, and then on the
+//! machine.
 //!
 //! The algorithm is a ticket lock. Each processing element takes a ticket, waits for its turn, and
 //! adds 1 to a cell in three steps. Only the lock keeps these steps apart from those of the others.
@@ -59,8 +60,8 @@ turn:   ld r4 r1
 
 /// Runs the lock under a schedule drawn from the seed.
 ///
-/// An error says that an addition was lost, since more have left the lock than were counted, or that
-/// the steps were too few for all.
+/// An error says that an addition was lost, since more have left the lock than were counted, or
+/// that the steps were too few for all.
 fn run_schedule(
     alloc: Global,
     config: &Config,

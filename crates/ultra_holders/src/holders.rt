@@ -120,7 +120,8 @@ pub fn elements_in<const SMALL: bool>(net: Net, units: &UnitSet) -> Holders<'_>
     numbered_from::<SMALL>(units, element_number(net, 0), net.size() as usize)
 }
 
-/// Of the units of one kind those that are in a set. There are `count` of the kind, and the first of them has number `base` among all units. In a `SMALL` machine all are in the first word.
+/// Of the units of one kind those that are in a set. There are `count` of the kind, and the first
+/// of them has number `base` among all units. In a `SMALL` machine all are in the first word.
 #[inline(always)]
 fn numbered_from<const SMALL: bool>(units: &UnitSet, base: usize, count: usize) -> Holders<'_>
     requires small { SMALL ≡ true → (base < 64) × (count < 64) × (base + count ≤ 64) }
@@ -150,7 +151,8 @@ fn numbered_from<const SMALL: bool>(units: &UnitSet, base: usize, count: usize) 
     }
 }
 
-/// Of the `count` units from number `from` on, those that are in a set and in the same word as `from`. Bit i says it of unit `from + i`.
+/// Of the `count` units from number `from` on, those that are in a set and in the same word as
+/// `from`. Bit i says it of unit `from + i`.
 #[inline(always)]
 fn bits_below<const SMALL: bool>(units: &UnitSet, from: usize, count: usize) -> u64
     requires small { SMALL ≡ true → count < 64 }

@@ -1,4 +1,5 @@
-//! A hot spot: all processing elements refer to one cell at once, and combining makes one request of theirs.
+//! A hot spot: all processing elements refer to one cell at once, and combining makes one request
+//! of theirs.
 #![tactic(auto)]
 
 ghost use Rattle.ultra_hot_spot.specs.AllAtOnce.{HotCellLaw};

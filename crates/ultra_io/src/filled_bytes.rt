@@ -1,6 +1,7 @@
 //! The bytes of a buffer, and texts among them.
 //!
-//! The position where a text goes on is passed from function to function, and stays in a register of the processor.
+//! The position where a text goes on is passed from function to function, and stays in a register
+//! of the processor.
 
 ghost use Rattle.std.specs.Prelude.{◌≡◌, ◌+◌, ◌<◌, ◌≤◌, ◌++◌, ◌∷◌, [], length, take, decimal};
 ghost use Rattle.ultra_io.specs.declared.filled_bytes.TheConstants.{BUFFER_BYTES};
@@ -133,7 +134,8 @@ impl FilledBytes {
         self.write_pair(behind, (number % 100) as u8)
     }
 
-    /// Writes the digits of a number below 10,000, at most four, and answers the position behind them.
+    /// Writes the digits of a number below 10,000, at most four, and answers the position behind
+    /// them.
     #[inline(always)]
     fn write_up_to_four(&mut self, at: usize, number: u32) -> usize
         requires number { number < 10000 }

@@ -9,11 +9,17 @@ use ultra_msg::{Sink, SinkFault, write_all};
 /// How many bytes a part of a line takes at most.
 pub const PART_BYTES: usize = 128;
 
-/// Text on its way to a sink. What is written waits in the buffer, which is flushed once it is full, and at the end by [`finish`](TextBuffer::finish). What still waits when the buffer is dropped is lost.
+/// Text on its way to a sink. What is written waits in the buffer, which is flushed once it is
+/// full, and at the end by [`finish`](TextBuffer::finish). What still waits when the buffer is
+/// dropped is lost.
 ///
-/// The buffer remembers the sink's first fault: the sink has then taken a prefix of the text, and gets nothing more. A buffer takes no memory.
+/// The buffer remembers the sink's first fault: the sink has then taken a prefix of the text, and
+/// gets nothing more. A buffer takes no memory.
 ///
-/// A line is written part by part. [`begin`](TextBuffer::begin) gives the position where it begins. [`write`](TextBuffer::write) and its like take the position where it goes on, and give the one behind what they wrote. [`end`](TextBuffer::end) takes the position where it ends. Between its parts [`make_room`](TextBuffer::make_room) ensures that the next one fits.
+/// A line is written part by part. [`begin`](TextBuffer::begin) gives the position where it begins.
+/// [`write`](TextBuffer::write) and its like take the position where it goes on, and give the one
+/// behind what they wrote. [`end`](TextBuffer::end) takes the position where it ends. Between its
+/// parts [`make_room`](TextBuffer::make_room) ensures that the next one fits.
 #[derive(Drop)]
 pub struct TextBuffer<'s, S: Sink> {
     sink: &'s mut S,
@@ -104,7 +110,8 @@ impl<'s, S: Sink> TextBuffer<'s, S> {
         self.filled_bytes.write_count(at, count)
     }
 
-    /// Makes room for the next part of a line, and answers the position where the line goes on. A buffer that is almost full is flushed first, with what is written of the line.
+    /// Makes room for the next part of a line, and answers the position where the line goes on. A
+    /// buffer that is almost full is flushed first, with what is written of the line.
     #[inline(always)]
     pub fn make_room(&mut self, at: usize) -> usize
         requires { at ≤ BUFFER_BYTES }

@@ -1,4 +1,5 @@
-//! The instructions of the simulated processors, and one step of a processor. The instruction set is this project's profile.
+//! The instructions of the simulated processors, and one step of a processor. The instruction set
+//! is this project's profile.
 #![tactic(auto)]
 
 mod processor;
@@ -11,7 +12,8 @@ use ultra_msg::{Register, Shift, Word};
 /// The most instructions of a program.
 pub const MOST_INSTRUCTIONS: usize = 4096;
 
-/// One instruction. The first register is the one that is written, if one is; the target of a jump is the index of an instruction, or the length of the program.
+/// One instruction. The first register is the one that is written, if one is; the target of a jump
+/// is the index of an instruction, or the length of the program.
 #[derive(Clone, Copy, Drop)]
 pub enum Instr {
     /// `li rd n`

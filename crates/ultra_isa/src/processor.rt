@@ -32,7 +32,8 @@ enum Effect {
     Halts,
 }
 
-/// A processing element without its network interface: sixteen registers, a program counter, and what it is doing (this project's profile).
+/// A processing element without its network interface: sixteen registers, a program counter, and
+/// what it is doing (this project's profile).
 #[derive(Drop)]
 pub struct Processor {
     pe: Pe,
@@ -53,7 +54,8 @@ impl Model for Processor {
     ghost invariant = { λ p. IsPlaced record { registers = p.registers; pc = p.pc; activity = p.activity } };
 }
 
-/// Whether one of the three registers is awaited. Where an instruction names fewer, one of them is given again.
+/// Whether one of the three registers is awaited. Where an instruction names fewer, one of them is
+/// given again.
 #[inline(always)]
 fn awaits_one(interface: &Pni, a: Register, b: Register, c: Register) -> bool
     ensures { result ≡ list_any (λ r. is_awaited r interface.now.interface.opened) (a ∷ b ∷ c ∷ []) }
@@ -61,7 +63,8 @@ fn awaits_one(interface: &Pni, a: Register, b: Register, c: Register) -> bool
     !interface.awaits_none() && (interface.awaits(a) || interface.awaits(b) || interface.awaits(c))
 }
 
-/// The effect that sets the register `d` to the value, of an instruction that names `a` and `b` too, or `None` where one of the three is awaited.
+/// The effect that sets the register `d` to the value, of an instruction that names `a` and `b`
+/// too, or `None` where one of the three is awaited.
 #[inline(always)]
 fn setting(interface: &Pni, d: Register, a: Register, b: Register, value: Word) -> Option<Effect>
     ensures { result ≡ (if list_any (λ r. is_awaited r interface.now.interface.opened) (d ∷ a ∷ b ∷ []) then None else Some (Effect.Sets d value)) }
@@ -74,7 +77,8 @@ fn setting(interface: &Pni, d: Register, a: Register, b: Register, value: Word) 
 }
 
 impl Processor {
-    /// The processing element of this number, in a machine of this network with `cells` cells in each memory module. Its registers are 0, and it starts with program counter 0.
+    /// The processing element of this number, in a machine of this network with `cells` cells in
+    /// each memory module. Its registers are 0, and it starts with program counter 0.
     pub fn new(pe: Pe, net: Net, cells: u32) -> Processor
         requires pe { pe < 2 ^ net }
         requires some_cells { 1 ≤ cells }
@@ -92,7 +96,9 @@ impl Processor {
         }
     }
 
-    /// Does one step: the instruction at the program counter, or a stall, or nothing where the processing element has halted or faulted. A request that it issues is then the last in its interface.
+    /// Does one step: the instruction at the program counter, or a stall, or nothing where the
+    /// processing element has halted or faulted. A request that it issues is then the last in its
+    /// interface.
     #[inline(always)]
     pub fn step(&mut self, program: &Program, interface: &mut Pni) -> Step
         ensures core { self.new ≡ record self.old { core = (step_of self.old.site interface.old.most_open program.now self.old.core interface.old.interface).core } }
@@ -132,7 +138,8 @@ impl Processor {
         self.registers[register.index()]
     }
 
-    /// The program counter, from 0; a processing element that has halted or faulted keeps that of the instruction that stopped it.
+    /// The program counter, from 0; a processing element that has halted or faulted keeps that of
+    /// the instruction that stopped it.
     pub fn pc(&self) -> usize
         ensures value { result ≡ self.now.core.pc }
         ensures placed { IsPlaced self.now.core }
@@ -209,7 +216,8 @@ impl Processor {
         self.apply(effect, interface)
     }
 
-    /// What an instruction does at the program counter, with these registers, or `None` where it names an awaited register.
+    /// What an instruction does at the program counter, with these registers, or `None` where it
+    /// names an awaited register.
     #[inline(always)]
     fn effect_of(&self, instruction: Instr, interface: &Pni) -> Option<Effect>
         ensures free { IsSome result ↔ (names_awaited instruction interface.now.interface ≡ false) }
@@ -239,7 +247,8 @@ impl Processor {
         }
     }
 
-    /// A jump, by the word in the register `a`, to the target, or to the next instruction where it isn't taken; `None` where the register is awaited.
+    /// A jump, by the word in the register `a`, to the target, or to the next instruction where it
+    /// isn't taken; `None` where the register is awaited.
     #[inline(always)]
     fn branch(&self, interface: &Pni, a: Register, taken: bool, target: u16) -> Option<Effect>
         ensures free { IsSome result ↔ (is_awaited a interface.now.interface.opened ≡ false) }
@@ -254,7 +263,8 @@ impl Processor {
         }
     }
 
-    /// The effect that refers to the cell whose address is in the register `a`. The instruction names the registers `d` and `b` too. `None` says that one of the three is awaited.
+    /// The effect that refers to the cell whose address is in the register `a`. The instruction
+    /// names the registers `d` and `b` too. `None` says that one of the three is awaited.
     #[inline(always)]
     fn reference(
         &self,
@@ -309,7 +319,8 @@ impl Processor {
         }
     }
 
-    /// Refers to a cell: issues the request, or stalls, or faults where the memory doesn't have the cell.
+    /// Refers to a cell: issues the request, or stalls, or faults where the memory doesn't have the
+    /// cell.
     #[inline(always)]
     fn refer(&mut self, cell: Cell, op: Op, target: Option<Register>, interface: &mut Pni) -> Step
         requires { self.old.core.pc < MOST_INSTRUCTIONS }

@@ -8,7 +8,8 @@ use crate::{Instr, MOST_INSTRUCTIONS};
 use std::alloc::{AllocError, Global};
 use std::marker::Model;
 
-/// A program: at most 4096 instructions, whose jumps go to indexes from 0 to the program's length (this project's profile).
+/// A program: at most 4096 instructions, whose jumps go to indexes from 0 to the program's length
+/// (this project's profile).
 #[derive(Drop)]
 pub struct Program {
     instructions: Vec<Instr>,
@@ -49,7 +50,8 @@ fn all_stay_within(list: &[Instr], length: usize) -> bool
 }
 
 impl Program {
-    /// The program of these instructions, or the list itself where there are more than 4096 of them or one jumps to an index above their number. It takes no memory.
+    /// The program of these instructions, or the list itself where there are more than 4096 of them
+    /// or one jumps to an index above their number. It takes no memory.
     pub fn new(list: Vec<Instr>) -> Result<Program, Vec<Instr>>
         ensures valid { IsOk result ↔ IsTrue (is_program list.items) }
         ensures program { IfOk result (λ p. p ≡ list.items) }

@@ -7,7 +7,9 @@ ghost use Rattle.ultra_latency.specs.Open.{IsOpenLaw};
 
 use ultra_model::Config;
 
-/// The law of open requests, for these settings, every run and every number of cycles. The events of the next cycle change the open requests as the machine does, and the latencies that they show are those of the definition.
+/// The law of open requests, for these settings, every run and every number of cycles. The events
+/// of the next cycle change the open requests as the machine does, and the latencies that they show
+/// are those of the definition.
 pub fn law_of_open_requests(config: &Config)
     ensures { (program : List Instr) (n : ℕ) → IsOpenLaw config.now program n }
 {

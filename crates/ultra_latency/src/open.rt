@@ -93,7 +93,8 @@ pub struct OpenTable {
 }
 
 impl OpenTable {
-    /// The table before the first cycle of a run: no request is open. An error says that memory was refused.
+    /// The table before the first cycle of a run: no request is open. An error says that memory was
+    /// refused.
     pub fn new(alloc: Global, config: &Config) -> Result<OpenTable, AllocError>
         ensures { IfOk result (λ t. (program : List Instr) → t.rows.items ≡ open_rows config.now program 0) }
     {

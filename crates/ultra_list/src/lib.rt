@@ -38,7 +38,8 @@ impl<T: Drop> From<AllocFailed<T>> for ListFault {
 
 /// The list whose text this is: each entry on its own line, as `0.0 faa 0 1 = 1`.
 ///
-/// Else the fault names the first line that isn't an entry, or says that memory was refused. The latter may replace any other answer.
+/// Else the fault names the first line that isn't an entry, or says that memory was refused. The
+/// latter may replace any other answer.
 pub fn read_list(alloc: Global, text: &[u8]) -> Result<SerialList, ListFault>
     ensures ok { IfOk result (λ list. IsListText text.now list.items) }
     ensures refused { IfErr result (ExplainsListFault text.now) }
@@ -56,12 +57,16 @@ pub fn read_list(alloc: Global, text: &[u8]) -> Result<SerialList, ListFault>
     Ok(list)
 }
 
-/// What is written for a list is the text of that list, as this function's contract. It holds for each list of entries whose numbers are words of 32 bits, as those of a [`SerialList`] are. So [`read_list`] gives it back. The function itself does nothing.
+/// What is written for a list is the text of that list, as this function's contract. It holds for
+/// each list of entries whose numbers are words of 32 bits, as those of a [`SerialList`] are. So
+/// [`read_list`] gives it back. The function itself does nothing.
 pub fn list_text_law()
     ensures written { ListTextLaw }
 {}
 
-/// What is written for these entries is their text, as this function's contract: their numbers are words of 32 bits, as their types say. So [`read_list`] gives them back. The function itself does nothing.
+/// What is written for these entries is their text, as this function's contract: their numbers are
+/// words of 32 bits, as their types say. So [`read_list`] gives them back. The function itself does
+/// nothing.
 pub fn entries_text_law(entries: &[Entry])
     ensures { IsListText (order_text entries.now) entries.now }
 {

@@ -62,7 +62,8 @@ fn reply_at(text: &[u8]) -> Option<(Reply, &[u8])>
     Some((Reply::Value(word), rest))
 }
 
-/// The text after a line's end, if this text begins with one: byte 10, bytes 13 and 10, or nothing at all.
+/// The text after a line's end, if this text begins with one: byte 10, bytes 13 and 10, or nothing
+/// at all.
 fn end_at(text: &[u8]) -> Option<&[u8]>
     ensures { option_copied result ≡ end_at text.now }
 {

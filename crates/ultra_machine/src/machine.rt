@@ -33,7 +33,8 @@ impl Model for Machine {
 }
 
 impl Machine {
-    /// The machine of these settings and this program before its first cycle: all registers and cells are 0 but for the initial ones, and nothing is on its way.
+    /// The machine of these settings and this program before its first cycle: all registers and
+    /// cells are 0 but for the initial ones, and nothing is on its way.
     ///
     /// It keeps its own copies. An error says that memory was refused.
     pub fn new(alloc: Global, config: &Config, program: &Program) -> Result<Machine, AllocError>
@@ -43,7 +44,8 @@ impl Machine {
         Ok(Machine { blocks })
     }
 
-    /// The machine makes one cycle: replies, memory, requests, processors. It takes no memory and always succeeds.
+    /// The machine makes one cycle: replies, memory, requests, processors. It takes no memory and
+    /// always succeeds.
     ///
     /// The count of cycles has to be below `2^32 - 1`.
     pub fn cycle(&mut self)
@@ -53,9 +55,12 @@ impl Machine {
         self.blocks.cycle();
     }
 
-    /// The same machine, cut into blocks: the partition names the block of each unit, 0 to 63. Switches come first, by stage, then modules, then processing elements. Blocks may be empty.
+    /// The same machine, cut into blocks: the partition names the block of each unit, 0 to 63.
+    /// Switches come first, by stage, then modules, then processing elements. Blocks may be empty.
     ///
-    /// `BadPartition` says that the partition is not of this length, or that a block is above 63; it is found before memory is asked for. `NoMemory` says that memory was refused. With either the same machine is given back.
+    /// `BadPartition` says that the partition is not of this length, or that a block is above 63;
+    /// it is found before memory is asked for. `NoMemory` says that memory was refused. With either
+    /// the same machine is given back.
     pub fn into_blocks(
         self,
         alloc: Global,
@@ -87,7 +92,8 @@ impl Machine {
         self.blocks.config()
     }
 
-    /// What happened in the last cycle: deliveries by processing element, servings by module, combinations by stage, position and arrival, issues by processing element.
+    /// What happened in the last cycle: deliveries by processing element, servings by module,
+    /// combinations by stage, position and arrival, issues by processing element.
     pub fn events(&self) -> &[Event]
         ensures { result.now ≡ self.now.state.events }
     {
@@ -101,7 +107,8 @@ impl Machine {
         self.blocks.stops_of_one()
     }
 
-    /// The queue toward memory at a memory-side position of a stage, with its wait buffer. Stages count from 0, positions too.
+    /// The queue toward memory at a memory-side position of a stage, with its wait buffer. Stages
+    /// count from 0, positions too.
     pub fn lane(&self, stage: u32, position: u32) -> &ToMm
         requires stage { stage < self.now.settings.stages }
         requires position { position < 2 ^ self.now.settings.stages }

@@ -1,4 +1,5 @@
-//! A memory module: some cells, a register for the request that comes and one for the reply that leaves, and an adder beside the memory.
+//! A memory module: some cells, a register for the request that comes and one for the reply that
+//! leaves, and an adder beside the memory.
 #![tactic(auto)]
 
 ghost use Rattle.std.specs.Prelude.{◌≡◌, ◌<◌, ◌≤◌, ◌⊎◌, ◌↔◌, length, IfOk, OnOk, IsTrue, IsErrOf, slice_get, slice_set, option_map};
@@ -52,7 +53,8 @@ impl From<AllocError> for ModuleFault {
 
 /// A memory module of 1 to 4096 cells, one word each. It serves at most one request a cycle.
 ///
-/// That an adder beside the memory does the fetch-and-add is the 1983 paper's; the two registers and when the module acts are this project's profile.
+/// That an adder beside the memory does the fetch-and-add is the 1983 paper's; the two registers
+/// and when the module acts are this project's profile.
 #[derive(Drop)]
 pub struct Module {
     cells: Vec<Word>,
@@ -75,7 +77,8 @@ impl Model for Module {
 impl Module {
     /// A module with this many cells, all 0, and both registers empty.
     ///
-    /// `CellsOutOfRange` is found before memory is asked for. `NoMemory` comes only where the memory for the cells was refused.
+    /// `CellsOutOfRange` is found before memory is asked for. `NoMemory` comes only where the
+    /// memory for the cells was refused.
     pub fn new(alloc: Global, cells: u32) -> Result<Module, ModuleFault>
         ensures ok { IfOk result (λ m. m ≡ fresh_module cells) }
         ensures in_range { OnOk result ((1 ≤ cells) × (cells ≤ MOST_CELLS)) }
@@ -137,7 +140,8 @@ impl Module {
         self.cells[offset as usize] = word;
     }
 
-    /// Takes a request for the cell at this offset, which the module must have, into the register for requests, which must be empty.
+    /// Takes a request for the cell at this offset, which the module must have, into the register
+    /// for requests, which must be empty.
     pub fn put(&mut self, request: Request, offset: u32)
         requires cell { offset < length self.old.cells }
         requires empty { self.old.inp ≡ None }
@@ -155,7 +159,8 @@ impl Module {
         self.inp.fill(Placed { request, offset });
     }
 
-    /// Serves the request that waits, and says what was done. Does nothing and gives `None` where no request waits, or where the last reply hasn't left.
+    /// Serves the request that waits, and says what was done. Does nothing and gives `None` where
+    /// no request waits, or where the last reply hasn't left.
     pub fn serve(&mut self) -> Option<Served>
         ensures state { self.new ≡ serve self.old }
         ensures act { result ≡ served self.old }
@@ -181,7 +186,8 @@ impl Module {
         })
     }
 
-    /// Takes the reply out of its register, or gives `None` where there is none. The register is empty afterwards.
+    /// Takes the reply out of its register, or gives `None` where there is none. The register is
+    /// empty afterwards.
     pub fn take_reply(&mut self) -> Option<ReplyMessage>
         ensures reply { result ≡ self.old.out }
         ensures taken { self.new ≡ without_out self.old }

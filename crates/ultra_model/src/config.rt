@@ -1,4 +1,5 @@
-//! The settings of a machine, and which of them are accepted. The keys and their ranges are this project's profile.
+//! The settings of a machine, and which of them are accepted. The keys and their ranges are this
+//! project's profile.
 
 ghost use Rattle.std.specs.Prelude.{◌≡◌, ◌≢◌, ℕ, ◌*◌, ◌^◌, ◌<◌, ◌≤◌, true, false, Some, All, AllPairs, IfOk, OnOk, IfErr, OnErr, IfSome, OnSome, IfNone};
 ghost use Rattle.ultra_route.specs.declared.TheConstants.{MOST_STAGES};
@@ -21,7 +22,8 @@ pub const MOST_REPLY_PLACES: u32 = 64;
 /// The most cycles of a run.
 pub const MOST_CYCLES: u32 = 1_000_000;
 
-/// The settings as they are given: the number of each key, or its default where the key is absent. `None` is a value that is missing, or of another kind than wanted.
+/// The settings as they are given: the number of each key, or its default where the key is absent.
+/// `None` is a value that is missing, or of another kind than wanted.
 #[derive(Drop)]
 pub struct RawSettings {
     /// The stages of the network, to be 1 to 6.
@@ -95,7 +97,8 @@ pub enum ConfigFault {
     /// Memory for the initial cells was refused.
     #[error("no memory")]
     NoMemory,
-    /// The first key, in the order of `Field`, whose value is missing, of another kind or out of range.
+    /// The first key, in the order of `Field`, whose value is missing, of another kind or out of
+    /// range.
     #[error("bad {0}")]
     BadConfig(Field),
 }
@@ -165,7 +168,8 @@ impl Model for Config {
 impl Config {
     /// The settings, if each is in its range and no address is given two values.
     ///
-    /// `BadConfig` names the first that isn't, in the order of `Field`. `NoMemory` means that memory for the initial cells was refused.
+    /// `BadConfig` names the first that isn't, in the order of `Field`. `NoMemory` means that
+    /// memory for the initial cells was refused.
     pub fn new(alloc: Global, raw: &RawSettings) -> Result<Config, ConfigFault>
         ensures accepted { OnOk result (first_bad raw.now ≡ None) }
         ensures value { IfOk result (λ c. c ≡ settings_of raw.now) }
@@ -280,7 +284,8 @@ impl Config {
         self.cycles
     }
 
-    /// The cells that are given a value, each by its address; the others hold 0 at first. No address occurs twice.
+    /// The cells that are given a value, each by its address; the others hold 0 at first. No
+    /// address occurs twice.
     pub fn initial(&self) -> &[(Cell, Word)]
         ensures value { result.now ≡ self.now.initial }
         ensures valid { IsValid self.now }

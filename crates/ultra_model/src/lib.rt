@@ -1,5 +1,6 @@
-//! The definition of the whole machine: its settings, its state between two cycles, the phases of a cycle, what every
-//! phase keeps, and the trace of a run. The machine is that of the 1983 paper; its timing, sizes and limits are this project's profile.
+//! The definition of the whole machine: its settings, its state between two cycles, the phases of a
+//! cycle, what every phase keeps, and the trace of a run. The machine is that of the 1983 paper;
+//! its timing, sizes and limits are this project's profile.
 #![tactic(auto)]
 
 mod config;

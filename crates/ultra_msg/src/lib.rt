@@ -1,4 +1,5 @@
-//! The messages of the machine: requests to cells of the shared memory, their replies, and how two requests for one cell are combined into one.
+//! The messages of the machine: requests to cells of the shared memory, their replies, and how two
+//! requests for one cell are combined into one.
 #![tactic(auto)]
 
 ghost use Rattle.std.specs.Prelude.{◌≡◌, ℕ, ◌^◌, ◌<◌, ◌≤◌, IfSome, IfNone, not};
@@ -107,7 +108,8 @@ impl Shift {
     }
 }
 
-/// What a request does to a cell. Loads, stores and fetch-and-adds are the 1983 paper's, the swap is this project's profile.
+/// What a request does to a cell. Loads, stores and fetch-and-adds are the 1983 paper's, the swap
+/// is this project's profile.
 #[derive(Clone, Copy, PartialEq, Eq, Debug, Default, Drop)]
 pub enum Op {
     /// Gives the cell's value.
@@ -124,7 +126,8 @@ pub enum Op {
 impl Op {
     ghost use Rattle.ultra_msg.specs.Act.{act};
 
-    /// What the operation makes of a cell with this value: the cell's value afterwards, and the reply. Sums are modulo `2^32`.
+    /// What the operation makes of a cell with this value: the cell's value afterwards, and the
+    /// reply. Sums are modulo `2^32`.
     #[inline(always)]
     pub fn act(self, value: Word) -> (Word, Reply)
         ensures { result ≡ act self value }
@@ -138,7 +141,8 @@ impl Op {
     }
 }
 
-/// A reference of a processing element (PE) to a cell. The PE and the cell are its identity in the network.
+/// A reference of a processing element (PE) to a cell. The PE and the cell are its identity in the
+/// network.
 #[derive(Clone, Copy, PartialEq, Eq, Debug, Default, Drop)]
 pub struct Request {
     /// The PE that issued it.
@@ -159,7 +163,8 @@ pub enum Reply {
     Ack,
 }
 
-/// A reply on its way to a processing element (PE). The PE and the cell are its identity in the network.
+/// A reply on its way to a processing element (PE). The PE and the cell are its identity in the
+/// network.
 #[derive(Clone, Copy, PartialEq, Eq, Debug, Default, Drop)]
 pub struct ReplyMessage {
     /// The PE that it goes to.
@@ -170,7 +175,8 @@ pub struct ReplyMessage {
     pub reply: Reply,
 }
 
-/// How one request of a combined pair is answered from the reply to what was sent for both; this project's profile.
+/// How one request of a combined pair is answered from the reply to what was sent for both; this
+/// project's profile.
 #[derive(Clone, Copy, PartialEq, Eq, Debug, Default, Drop)]
 pub enum Give {
     /// That reply itself.
@@ -237,9 +243,11 @@ pub struct Paired {
     pub old_first: bool,
 }
 
-/// What is sent for two requests to one cell, and how both are answered. `old` was in the queue when `new` came.
+/// What is sent for two requests to one cell, and how both are answered. `old` was in the queue
+/// when `new` came.
 ///
-/// Which pairs combine and how is this project's profile. That the pair acts as its two requests do sequentially is the serialization principle of the 1983 paper.
+/// Which pairs combine and how is this project's profile. That the pair acts as its two requests do
+/// sequentially is the serialization principle of the 1983 paper.
 pub fn pair(old: Op, new: Op) -> Paired
     ensures table { result ≡ pair_of old new }
     ensures keeps_both { (v : ℕ) → v < 2 ^ 32 → KeepsBoth old new result v }
@@ -276,7 +284,9 @@ pub fn pair(old: Op, new: Op) -> Paired
 impl Give {
     ghost use Rattle.ultra_msg.specs.declared.Op.{Op};
 
-    /// The reply that this makes of the reply to what was sent for both. `Plus` adds its word to a value and leaves an acknowledgement as it is. `Fixed` gives its word and `Ack` an acknowledgement in any case.
+    /// The reply that this makes of the reply to what was sent for both. `Plus` adds its word to a
+    /// value and leaves an acknowledgement as it is. `Fixed` gives its word and `Ack` an
+    /// acknowledgement in any case.
     pub fn of(self, reply: Reply) -> Reply
         ensures { result ≡ reply_given self reply }
     {
@@ -289,9 +299,11 @@ impl Give {
         }
     }
 
-    /// Whether the old request of a pair comes first in the serial order, where it is answered in this way: it does unless that is `Fixed`.
+    /// Whether the old request of a pair comes first in the serial order, where it is answered in
+    /// this way: it does unless that is `Fixed`.
     ///
-    /// Only a store that came to a load or a fetch-and-add goes before it, and only then is the old request answered by `Fixed`; this project's profile.
+    /// Only a store that came to a load or a fetch-and-add goes before it, and only then is the old
+    /// request answered by `Fixed`; this project's profile.
     pub fn old_goes_first(self) -> bool
         ensures fixed { result ≡ not (is_fixed self) }
         ensures in_pair { (old new : Op) → self ≡ (pair_of old new).give_old → result ≡ (pair_of old new).old_first }

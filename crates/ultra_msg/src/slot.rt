@@ -4,7 +4,8 @@ ghost use Rattle.std.specs.Prelude.{◌≡◌, Some, None, is_some, not};
 
 use std::marker::Model;
 
-/// A place for one item. Emptying it takes one instruction: the item stays in memory, and only what says that it is there goes.
+/// A place for one item. Emptying it takes one instruction: the item stays in memory, and only what
+/// says that it is there goes.
 #[derive(Drop)]
 pub struct Slot<T> {
     is_full: bool,

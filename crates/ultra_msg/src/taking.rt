@@ -5,7 +5,8 @@ ghost use Rattle.std.specs.List.{remove};
 
 use arrayvec::ArrayVec;
 
-/// Takes the item at a place out of a list. Those behind it move forward one by one, since they are few.
+/// Takes the item at a place out of a list. Those behind it move forward one by one, since they are
+/// few.
 #[inline(always)]
 pub fn take_out<T: Copy + Default, const N: usize>(list: &mut ArrayVec<T, N>, place: usize) -> T
     requires { place < length list.old.items }

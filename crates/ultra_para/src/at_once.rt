@@ -19,7 +19,8 @@ pub enum StepReport {
     Faulted(MachineFault),
 }
 
-/// Does one step of a processing element. A request that it issues acts on these cells, and its reply comes, before the step ends.
+/// Does one step of a processing element. A request that it issues acts on these cells, and its
+/// reply comes, before the step ends.
 pub(crate) fn step_at_once(
     processor: &mut Processor,
     program: &Program,

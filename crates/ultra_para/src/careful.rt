@@ -25,7 +25,8 @@ fn is_fence_at(program: &Program, pc: usize) -> bool
     }
 }
 
-/// Whether the instruction at a program counter refers to no cell or is directly followed by a fence.
+/// Whether the instruction at a program counter refers to no cell or is directly followed by a
+/// fence.
 fn is_fenced_at(program: &Program, pc: usize) -> bool
     requires { pc < length program.now }
     ensures { result ≡ is_fenced_pc program.now pc }
@@ -36,7 +37,8 @@ fn is_fenced_at(program: &Program, pc: usize) -> bool
     }
 }
 
-/// The program counter of the first instruction that refers to a cell and isn't directly followed by `fence`, from 0. `None` says that the program is careful.
+/// The program counter of the first instruction that refers to a cell and isn't directly followed
+/// by `fence`, from 0. `None` says that the program is careful.
 pub fn first_unfenced(program: &Program) -> Option<usize>
     ensures first { IfSome result (IsFirstUnfenced program.now) }
     ensures careful { is_none result ≡ careful program.now }

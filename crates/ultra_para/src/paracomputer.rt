@@ -17,7 +17,8 @@ use ultra_msg::{Cell, Pe, Register, Word};
 
 /// A paracomputer: its settings, its program, its cells, and its processing elements.
 ///
-/// The paracomputer is the 1983 paper's: processing elements that share one memory, in which every request acts at once. Of the settings it takes the number of processing elements and the cells.
+/// The paracomputer is the 1983 paper's: processing elements that share one memory, in which every
+/// request acts at once. Of the settings it takes the number of processing elements and the cells.
 #[derive(Drop)]
 pub struct Para {
     config: Config,
@@ -67,7 +68,8 @@ fn have_stopped(processors: &[Processor]) -> bool
 }
 
 impl Para {
-    /// The paracomputer of these settings and this program before its first step: all registers and cells are 0 but for the initial ones.
+    /// The paracomputer of these settings and this program before its first step: all registers and
+    /// cells are 0 but for the initial ones.
     ///
     /// It keeps its own copies. An error says that memory was refused.
     pub fn new(alloc: Global, config: &Config, program: &Program) -> Result<Para, AllocError>
@@ -81,7 +83,8 @@ impl Para {
         })
     }
 
-    /// One step of a processing element: an instruction, whose request acts on its cell at once. A `fence` does nothing; faults are those of the machine. It takes no memory.
+    /// One step of a processing element: an instruction, whose request acts on its cell at once. A
+    /// `fence` does nothing; faults are those of the machine. It takes no memory.
     pub fn step(&mut self, pe: Pe)
         requires { pe < size self.old.settings }
         ensures { self.new ≡ record self.old { state = para_step self.old.settings self.old.program self.old.state pe } }
@@ -102,7 +105,8 @@ impl Para {
         )
     }
 
-    /// The steps of a schedule, in its order: each number is the processing element that makes the step.
+    /// The steps of a schedule, in its order: each number is the processing element that makes the
+    /// step.
     pub fn run(&mut self, schedule: &[Pe])
         requires { All (λ p. p < size self.old.settings) schedule.now }
         ensures { self.new ≡ record self.old { state = run_para self.old.settings self.old.program self.old.state schedule.now } }
@@ -149,7 +153,8 @@ impl Para {
         self.cells.get(cell as usize).copied()
     }
 
-    /// The word in a register, or `None` where there is no such processing element or the number is above 15.
+    /// The word in a register, or `None` where there is no such processing element or the number is
+    /// above 15.
     pub fn register(&self, pe: Pe, number: u8) -> Option<Word>
         ensures value { IfSome result (λ word. word ≡ slice_index (core_at self.now.state pe).registers number) }
         ensures known { IsSome result ↔ ((pe < size self.now.settings) × (number < 16)) }

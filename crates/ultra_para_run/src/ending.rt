@@ -14,7 +14,8 @@ use ultra_msg::{Sink, Word};
 use ultra_para::Para;
 use ultra_trace_text::{put_cell, put_pe};
 
-/// Writes the lines at the end: the number of steps and whether all have stopped, the cells that aren't 0, and the processing elements.
+/// Writes the lines at the end: the number of steps and whether all have stopped, the cells that
+/// aren't 0, and the processing elements.
 pub(crate) fn put_end<S: Sink>(buffer: &mut TextBuffer<'_, S>, para: &Para, steps: usize)
     ensures { Writes S.taken S.failures (para_end para.now.settings steps para.now.state) buffer.old
         buffer.new }

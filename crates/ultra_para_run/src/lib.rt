@@ -1,4 +1,5 @@
-//! Runs of the paracomputer: their schedules, read from a text or drawn from a number, and the text that is written of them. The text forms are this project's profile.
+//! Runs of the paracomputer: their schedules, read from a text or drawn from a number, and the text
+//! that is written of them. The text forms are this project's profile.
 #![tactic(auto)]
 
 mod drawing;

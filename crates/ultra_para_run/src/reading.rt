@@ -16,7 +16,8 @@ use ultra_msg::Pe;
 pub enum ScheduleFault {
     /// Memory was refused.
     NoMemory,
-    /// The first line, counted from 1, that has a word which isn't the number of a processing element.
+    /// The first line, counted from 1, that has a word which isn't the number of a processing
+    /// element.
     BadPe(usize),
 }
 
@@ -28,9 +29,11 @@ impl<T: Drop> From<AllocFailed<T>> for ScheduleFault {
     }
 }
 
-/// The schedule that a text writes for a machine of `size` processing elements: their numbers, separated by blanks, tabs, commas and the ends of lines. `#` begins a comment.
+/// The schedule that a text writes for a machine of `size` processing elements: their numbers,
+/// separated by blanks, tabs, commas and the ends of lines. `#` begins a comment.
 ///
-/// Else the fault names the first line with a bad word, or says that memory was refused. The latter may replace any other answer.
+/// Else the fault names the first line with a bad word, or says that memory was refused. The latter
+/// may replace any other answer.
 pub fn read_schedule(alloc: Global, bytes: &[u8], size: u32) -> Result<Vec<Pe>, ScheduleFault>
     ensures ok { IfOk result (λ v. IsScheduleText size bytes.now v.items) }
     ensures below { IfOk result (λ v. All (λ p. p < size) v.items) }

@@ -20,9 +20,12 @@ use ultra_model::Config;
 use ultra_msg::{Pe, Sink, SinkFault};
 use ultra_trace_alone::RunFault;
 
-/// Runs a program on a paracomputer of these settings along a schedule, and writes the text of the run to a sink. The text is the lines of the steps, unless only the end is asked for, and the lines at the end. After a fault the sink has taken a prefix of it.
+/// Runs a program on a paracomputer of these settings along a schedule, and writes the text of the
+/// run to a sink. The text is the lines of the steps, unless only the end is asked for, and the
+/// lines at the end. After a fault the sink has taken a prefix of it.
 ///
-/// `Write` says that the sink failed, and `NoMemory` that memory was refused; it is asked for only before the first byte is written. `NoThread` is never answered.
+/// `Write` says that the sink failed, and `NoMemory` that memory was refused; it is asked for only
+/// before the first byte is written. `NoThread` is never answered.
 pub fn write_para<S: Sink>(
     alloc: Global,
     config: &Config,
@@ -46,7 +49,8 @@ pub fn write_para<S: Sink>(
     Ok(())
 }
 
-/// Makes the steps of a schedule from the start on, and writes the text of the run to a sink. After a fault the sink has taken a prefix of it.
+/// Makes the steps of a schedule from the start on, and writes the text of the run to a sink. After
+/// a fault the sink has taken a prefix of it.
 fn write_run<S: Sink>(
     run: &mut ParaRun,
     schedule: &[Pe],
@@ -67,7 +71,8 @@ fn write_run<S: Sink>(
     buffer.finish()
 }
 
-/// Makes the steps of a schedule from the start on, and writes the text of the run. It ends early where the sink fails.
+/// Makes the steps of a schedule from the start on, and writes the text of the run. It ends early
+/// where the sink fails.
 fn put_run<S: Sink>(
     buffer: &mut TextBuffer<'_, S>,
     run: &mut ParaRun,
@@ -83,7 +88,8 @@ fn put_run<S: Sink>(
     put_end(buffer, &run.para, schedule.len());
 }
 
-/// Makes the steps of a schedule, and writes their lines, unless only the end is asked for. It ends early where the sink fails.
+/// Makes the steps of a schedule, and writes their lines, unless only the end is asked for. It ends
+/// early where the sink fails.
 fn put_steps<S: Sink>(
     buffer: &mut TextBuffer<'_, S>,
     run: &mut ParaRun,
@@ -107,7 +113,10 @@ fn put_steps<S: Sink>(
     }
 }
 
-/// Runs a program on a paracomputer of these settings along the schedule that is drawn from a number, and writes the text of the run to a sink. The schedule ends once all processing elements have stopped, or after `steps` steps, by default as many as the machine could make in all its cycles.
+/// Runs a program on a paracomputer of these settings along the schedule that is drawn from a
+/// number, and writes the text of the run to a sink. The schedule ends once all processing elements
+/// have stopped, or after `steps` steps, by default as many as the machine could make in all its
+/// cycles.
 ///
 /// It fails as [`write_para`] does.
 pub fn write_seeded<S: Sink>(
@@ -136,7 +145,8 @@ pub fn write_seeded<S: Sink>(
     Ok(())
 }
 
-/// Makes the steps of the schedule that is drawn from a number, from the start on, and writes the text of the run to a sink. After a fault the sink has taken a prefix of it.
+/// Makes the steps of the schedule that is drawn from a number, from the start on, and writes the
+/// text of the run to a sink. After a fault the sink has taken a prefix of it.
 fn write_drawn<S: Sink>(
     run: &mut ParaRun,
     stages: u32,
@@ -163,7 +173,8 @@ fn write_drawn<S: Sink>(
     buffer.finish()
 }
 
-/// Makes the steps of the schedule that is drawn from a number, from the start on, and writes the text of the run. It ends early where the sink fails.
+/// Makes the steps of the schedule that is drawn from a number, from the start on, and writes the
+/// text of the run. It ends early where the sink fails.
 fn put_drawn_run<S: Sink>(
     buffer: &mut TextBuffer<'_, S>,
     run: &mut ParaRun,
@@ -194,7 +205,9 @@ fn steps_asked(config: &Config, steps: Option<u32>) -> u32
     }
 }
 
-/// Makes the steps of the schedule that is drawn from a number, at most `most`, and writes their lines, unless only the end is asked for. Gives the number of steps. It ends early where the sink fails.
+/// Makes the steps of the schedule that is drawn from a number, at most `most`, and writes their
+/// lines, unless only the end is asked for. Gives the number of steps. It ends early where the sink
+/// fails.
 fn put_drawn<S: Sink>(
     buffer: &mut TextBuffer<'_, S>,
     run: &mut ParaRun,

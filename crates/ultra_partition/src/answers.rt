@@ -1,4 +1,5 @@
-//! What is asked of all blocks of a machine: where there is no room, which units hold something, and whether anything is left to do.
+//! What is asked of all blocks of a machine: where there is no room, which units hold something,
+//! and whether anything is left to do.
 
 ghost use Rattle.std.specs.Prelude.{◌≡◌};
 ghost use Rattle.ultra_partition.specs.Prelude.{list_all};
@@ -8,7 +9,8 @@ ghost use Rattle.ultra_partition.specs.{Holding.IsSetOfAll, Moments.AreRoomsOfAl
 use ultra_block_core::{Block, Held, Rooms};
 use ultra_topology::UnitSet;
 
-/// Each block notes which of its switches, queues and modules have no room. The rooms are those of the whole machine, however it is cut.
+/// Each block notes which of its switches, queues and modules have no room. The rooms are those of
+/// the whole machine, however it is cut.
 #[inline(always)]
 #[tactic(auto, using(crate::proofs::Questions::next_noted))]
 pub fn note_rooms(blocks: &[Block]) -> Rooms
@@ -42,7 +44,8 @@ fn is_each_quiet(blocks: &[Block]) -> bool
     blocks.iter().all(|block| block.is_quiet())
 }
 
-/// Whether nothing is left to do in the whole machine, however it is cut. By a first look, some processing element has often yet to stop.
+/// Whether nothing is left to do in the whole machine, however it is cut. By a first look, some
+/// processing element has often yet to stop.
 #[inline(always)]
 #[tactic(auto, using(crate::proofs::Questions::quiet_is, std::proofs::lemmas::List::Folds::list_all_at))]
 pub fn are_quiet(blocks: &[Block]) -> bool

@@ -1,5 +1,6 @@
-//! A machine cut into blocks by a partition: which block has which unit, and which messages go from one block to
-//! another. Also what all blocks together do to the whole machine in a cycle, and how their events are merged.
+//! A machine cut into blocks by a partition: which block has which unit, and which messages go from
+//! one block to another. Also what all blocks together do to the whole machine in a cycle, and how
+//! their events are merged.
 #![tactic(auto)]
 
 mod answers;

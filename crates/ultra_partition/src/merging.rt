@@ -24,7 +24,8 @@ pub trait Ranking<T> {
         ensures { result ≡ rank_of self.now entry.now };
 }
 
-/// Gives the entries of several lists by rank, and those of one rank list by list. Each list has to be in the order of its ranks.
+/// Gives the entries of several lists by rank, and those of one rank list by list. Each list has to
+/// be in the order of its ranks.
 ///
 /// The lists are borrowed, and no memory is asked for.
 #[derive(Drop)]
@@ -47,7 +48,8 @@ impl<'a, T, R: Ranking<T>> Model for Merge<'a, T, R> {
     ghost invariant = { λ m. All (λ list. IsRanked (R.rank_of m.ranking) (R.rank_count m.ranking) list.now) m.lists.items };
 }
 
-/// The list whose first entry comes next, as far as the lists were looked at, and that entry's rank.
+/// The list whose first entry comes next, as far as the lists were looked at, and that entry's
+/// rank.
 #[derive(Clone, Copy, Drop)]
 struct Front {
     place: usize,
@@ -76,7 +78,8 @@ impl<'a, T, R: Ranking<T>> Merge<'a, T, R> {
         self.lists.push(list);
     }
 
-    /// The list whose first entry comes next: the first of those that have an entry of the least rank.
+    /// The list whose first entry comes next: the first of those that have an entry of the least
+    /// rank.
     #[tactic(auto, using(crate::proofs::Merged::past_empty))]
     fn front(&self) -> Option<Front>
         ensures { IsFront (R.rank_of self.now.ranking) self.now.lists (length self.now.lists) result }

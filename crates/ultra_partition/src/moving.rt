@@ -67,7 +67,8 @@ fn move_home(
     }
 }
 
-/// Moves each message of a kind to the block of the unit to which it leads; nothing else changes. A block whose messages all lead to its own units is skipped.
+/// Moves each message of a kind to the block of the unit to which it leads; nothing else changes. A
+/// block whose messages all lead to its own units is skipped.
 #[inline(always)]
 #[tactic(auto, using(crate::proofs::Moved::nothing_moved))]
 pub fn exchange(blocks: &mut [Block], partition: &[u8], kind: MessageKind, net: Net)

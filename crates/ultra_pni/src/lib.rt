@@ -1,4 +1,5 @@
-//! A processing element's network interface: its requests that are not yet in the network, and its open cells.
+//! A processing element's network interface: its requests that are not yet in the network, and its
+//! open cells.
 #![tactic(auto)]
 
 ghost use Rattle.std.specs.Prelude.{◌≡◌, ℕ, ◌-◌, ◌<◌, ◌≤◌, ◌↔◌, ◌==◌, ◌&&◌, [], true, false, length, slice_get};
@@ -18,7 +19,8 @@ use ultra_msg::{Cell, Register, ReplyMessage, Request, RequestPacket, take_out};
 /// The most cells that an interface can hold open.
 pub const MOST_OPEN: usize = 8;
 
-/// A cell with an outstanding reference, and the register that its value goes to, if it goes to one.
+/// A cell with an outstanding reference, and the register that its value goes to, if it goes to
+/// one.
 #[derive(Clone, Copy, Default, Drop)]
 pub struct OpenCell {
     /// The cell.
@@ -40,7 +42,9 @@ pub enum Issue {
 
 /// The network interface of one processing element, or PE (this project's profile).
 ///
-/// It holds the requests that this PE has issued and that are not yet in the network, in the order of their issues. It also holds the cells that are open: those with a reference that hasn't been answered. No cell is open twice, as in the 1983 paper.
+/// It holds the requests that this PE has issued and that are not yet in the network, in the order
+/// of their issues. It also holds the cells that are open: those with a reference that hasn't been
+/// answered. No cell is open twice, as in the 1983 paper.
 #[derive(Drop)]
 pub struct Pni {
     opened: ArrayVec<OpenCell, MOST_OPEN>,
@@ -69,7 +73,8 @@ fn place_of(opened: &[OpenCell], cell: Cell) -> Option<usize>
 }
 
 impl Pni {
-    /// An interface with nothing open and nothing pending, which can hold `most_open` cells open, at most `MOST_OPEN`.
+    /// An interface with nothing open and nothing pending, which can hold `most_open` cells open,
+    /// at most `MOST_OPEN`.
     pub fn new(most_open: usize) -> Pni
         requires { most_open ≤ MOST_OPEN }
         ensures { result ≡ record { interface = empty_interface; most_open = most_open } }
@@ -84,7 +89,9 @@ impl Pni {
 
     /// Takes a request, whose value is to go to the register `target`, if it is to go to one.
     ///
-    /// `Sent` says that the request is now the last of the list and that its cell is open. `CellOpen` says that its cell was open already, and else `Full` that the maximum number of cells was already open; both leave the interface as it was.
+    /// `Sent` says that the request is now the last of the list and that its cell is open.
+    /// `CellOpen` says that its cell was open already, and else `Full` that the maximum number of
+    /// cells was already open; both leave the interface as it was.
     #[inline(always)]
     pub fn issue(&mut self, request: Request, target: Option<Register>) -> Issue
         ensures answer { result ≡ issue_of self.old.most_open self.old.interface request }
@@ -123,7 +130,8 @@ impl Pni {
         }
     }
 
-    /// Takes the request that leaves next out of the list; its cell stays open. `None` says that none was pending.
+    /// Takes the request that leaves next out of the list; its cell stays open. `None` says that
+    /// none was pending.
     pub fn leave(&mut self) -> Option<Request>
         ensures request { result ≡ next_pending self.old }
         ensures interface { self.new ≡ without_next self.old }
@@ -139,7 +147,8 @@ impl Pni {
         self.pending.pop()
     }
 
-    /// A reply has come: its cell is no longer open. Gives the register that the reply's value goes to, or `None` where it goes to none.
+    /// A reply has come: its cell is no longer open. Gives the register that the reply's value goes
+    /// to, or `None` where it goes to none.
     ///
     /// The cell has to be open, and its request has to have left the list.
     pub fn deliver(&mut self, reply: ReplyMessage) -> Option<Register>
@@ -160,7 +169,8 @@ impl Pni {
         self.opened.iter().any(|open| open.cell == cell)
     }
 
-    /// Whether a request for the cell would be refused now: its cell is open, or the maximum number of cells is already open.
+    /// Whether a request for the cell would be refused now: its cell is open, or the maximum number
+    /// of cells is already open.
     pub fn refuses(&self, cell: Cell) -> bool
         ensures { (r : Request) → r.cell ≡ cell → result ≡ is_refusal (issue_of self.now.most_open self.now.interface r) }
     {

@@ -8,7 +8,8 @@ use crate::OpenCell;
 use std::marker::Model;
 use ultra_msg::Register;
 
-/// Some of the registers of a processing element: bit r of the word says whether register r is one of them.
+/// Some of the registers of a processing element: bit r of the word says whether register r is one
+/// of them.
 #[derive(Clone, Copy, Drop)]
 pub(crate) struct Registers {
     word: u32,

@@ -6,7 +6,8 @@ use crate::MOST_OPEN;
 use std::marker::Model;
 use ultra_msg::RequestPacket;
 
-/// Requests in the order in which they came, in a ring over 8 places: the first place, and how many from there on.
+/// Requests in the order in which they came, in a ring over 8 places: the first place, and how many
+/// from there on.
 #[derive(Drop)]
 pub(crate) struct RequestRing {
     places: [RequestPacket; MOST_OPEN],

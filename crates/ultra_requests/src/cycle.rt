@@ -51,7 +51,8 @@ pub(crate) fn put_stops<S: Sink>(buffer: &mut TextBuffer<'_, S>, stops: &[Stop],
     }
 }
 
-/// Writes the rows of the requests that the events of a cycle answer. The open requests go on with them.
+/// Writes the rows of the requests that the events of a cycle answer. The open requests go on with
+/// them.
 pub(crate) fn put_answers<S: Sink>(
     buffer: &mut TextBuffer<'_, S>,
     table: &mut OpenTable,

@@ -19,9 +19,12 @@ use ultra_model::Config;
 use ultra_msg::Sink;
 use ultra_trace_alone::{RunFault, RunText, write_run};
 
-/// Runs a program on a machine of these settings in the caller's thread. Writes a line for each event of the cycles from `from` to `to` to the sink; after a fault the sink has taken a prefix of them. What it holds doesn't grow with the number of cycles.
+/// Runs a program on a machine of these settings in the caller's thread. Writes a line for each
+/// event of the cycles from `from` to `to` to the sink; after a fault the sink has taken a prefix
+/// of them. What it holds doesn't grow with the number of cycles.
 ///
-/// `Write` says that the sink failed, and `NoMemory` that memory was refused; it is asked for only before the first byte is written. `NoThread` is never answered.
+/// `Write` says that the sink failed, and `NoMemory` that memory was refused; it is asked for only
+/// before the first byte is written. `NoThread` is never answered.
 pub fn write_events<S: Sink>(
     alloc: Global,
     config: &Config,

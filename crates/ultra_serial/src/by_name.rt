@@ -1,4 +1,5 @@
-//! The items of a list by the name of a request, found by index where the numbers of a processing element have no gaps.
+//! The items of a list by the name of a request, found by index where the numbers of a processing
+//! element have no gaps.
 
 ghost use Rattle.std.specs.Prelude.{◌≡◌, ℕ, ◌+◌, ◌<◌, List, [], true, false, length, IfOk, IfSome, OnOk, slice_get};
 ghost use Rattle.std.specs.Prelude.{Some};
@@ -17,10 +18,13 @@ const ROWS: u32 = 64;
 
 /// Where the items of a list are, by the name of a request. Most names have one item.
 ///
-/// A name can have a place in a row, which holds the index of one item. The items of a name that has several, or no place, are in a map. The methods are handed the list, which is the same at each call.
+/// A name can have a place in a row, which holds the index of one item. The items of a name that
+/// has several, or no place, are in a map. The methods are handed the list, which is the same at
+/// each call.
 #[derive(Drop)]
 pub(crate) struct ListsByName<T> {
-    /// For each processing element the places of its first numbers: one more than the index of an item, or 0.
+    /// For each processing element the places of its first numbers: one more than the index of an
+    /// item, or 0.
     rows: Vec<Vec<u32>>,
     /// All items of the names that have several items, or no place.
     others: ListsByPair<T>,
@@ -107,7 +111,8 @@ impl<T: Copy> ListsByName<T> {
         self.others.push(name, whole[index])
     }
 
-    /// Puts the item that a name has in its place into the map, if the map has none of that name. No list changes.
+    /// Puts the item that a name has in its place into the map, if the map has none of that name.
+    /// No list changes.
     fn keep_first(&mut self, whole: &[T], name: RequestName) -> Result<(), AllocError>
         requires { FitsInMemory T.row }
         ensures same { OnOk result ((p n : ℕ) → list_named self.new whole.now p n ≡ list_named self.old whole.now p n) }
@@ -133,7 +138,8 @@ impl<T: Copy> ListsByName<T> {
         0
     }
 
-    /// Gives the place of a name the item of an index. It answers `false` where the name has no place, or the index is too large.
+    /// Gives the place of a name the item of an index. It answers `false` where the name has no
+    /// place, or the index is too large.
     fn set_place(&mut self, name: RequestName, index: usize) -> bool
         ensures set { result ≡ true → (p n : ℕ) → place_of self.new.rows.items p n ≡ places_with (place_of self.old.rows.items) name.pe name.number (index + 1) p n }
         ensures unchanged { result ≡ false → self.new ≡ self.old }

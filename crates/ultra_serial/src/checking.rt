@@ -21,7 +21,8 @@ use ultra_msg::{Cell, Word};
 /// The number of addresses whose cells are found fast.
 const TABLE_CELLS: u32 = 65_536;
 
-/// What is wrong with a list: with one of its entries, with an answer that none of them has (`Missing`) or with a cell (`WrongCell`).
+/// What is wrong with a list: with one of its entries, with an answer that none of them has
+/// (`Missing`) or with a cell (`WrongCell`).
 #[derive(Clone, Copy, PartialEq, Eq, Debug, Drop)]
 pub enum BreachKind {
     /// The log has no issue of this name with this cell and operation.
@@ -36,7 +37,8 @@ pub enum BreachKind {
     WrongAnswer,
     /// A replay of the list leaves a cell with another value.
     WrongCell,
-    /// The entry was answered in the cycle in which an earlier entry was issued, or before that cycle.
+    /// The entry was answered in the cycle in which an earlier entry was issued, or before that
+    /// cycle.
     TooLate,
 }
 
@@ -45,7 +47,8 @@ pub enum BreachKind {
 pub enum CheckFault {
     /// Memory was refused.
     NoMemory,
-    /// The list doesn't explain the log: what is wrong, and the index of the entry, of the log's answer (`Missing`) or of the cell (`WrongCell`).
+    /// The list doesn't explain the log: what is wrong, and the index of the entry, of the log's
+    /// answer (`Missing`) or of the cell (`WrongCell`).
     Breach(BreachKind, usize),
 }
 
@@ -59,9 +62,14 @@ impl From<AllocError> for CheckFault {
     }
 }
 
-/// Whether a list explains the log of a run from the initial cells to the last cells: `Ok` exactly where it does. Each cell is given by its address and value. If an address occurs twice, the last value wins; the other cells hold 0.
+/// Whether a list explains the log of a run from the initial cells to the last cells: `Ok` exactly
+/// where it does. Each cell is given by its address and value. If an address occurs twice, the last
+/// value wins; the other cells hold 0.
 ///
-/// Else the fault is the first one. The entries are examined one by one, each for `NotIssued`, `Repeated`, `WrongReplay`, `WrongAnswer` and `TooLate`; then the log's answers for `Missing`; then the cells by address. `NoMemory` means that memory was refused; it may replace any other answer.
+/// Else the fault is the first one. The entries are examined one by one, each for `NotIssued`,
+/// `Repeated`, `WrongReplay`, `WrongAnswer` and `TooLate`; then the log's answers for `Missing`;
+/// then the cells by address. `NoMemory` means that memory was refused; it may replace any other
+/// answer.
 pub fn check(
     alloc: Global,
     initial: &[(Cell, Word)],
@@ -83,7 +91,8 @@ pub fn check(
     Ok(())
 }
 
-/// Finds the first fault of an entry, or of an answer that no entry has. If there is none, the entries have acted on the memory in order.
+/// Finds the first fault of an entry, or of an answer that no entry has. If there is none, the
+/// entries have acted on the memory in order.
 fn examine(
     alloc: Global,
     log: &Log,
@@ -103,7 +112,8 @@ fn examine(
     Ok(())
 }
 
-/// Finds the first fault of an entry. The entries before it have acted on the memory, and are in `names`, which has the log and no entries at first.
+/// Finds the first fault of an entry. The entries before it have acted on the memory, and are in
+/// `names`, which has the log and no entries at first.
 fn replay(
     list: &[Entry],
     names: &mut RecordsByName<'_>,
@@ -179,7 +189,8 @@ fn lowest_given(
     found
 }
 
-/// The lowest address at which two memories differ, among those of the entries and what was found before.
+/// The lowest address at which two memories differ, among those of the entries and what was found
+/// before.
 fn lowest_used(
     left: &DenseMemory,
     right: &DenseMemory,

@@ -22,7 +22,8 @@ pub(crate) struct DenseMemory {
 }
 
 impl DenseMemory {
-    /// A memory with these cells, each given by its address and value; if an address occurs twice, the last value wins. The addresses below `all_cells` are found fast.
+    /// A memory with these cells, each given by its address and value; if an address occurs twice,
+    /// the last value wins. The addresses below `all_cells` are found fast.
     ///
     /// An error says that memory of the host was refused.
     pub fn new(
@@ -78,7 +79,8 @@ impl DenseMemory {
     }
 }
 
-/// A list of `count` zeros. (A parameter, because a tactic would compute a list of `TABLE_CELLS` zeros.)
+/// A list of `count` zeros. (A parameter, because a tactic would compute a list of `TABLE_CELLS`
+/// zeros.)
 pub(crate) fn zeros(alloc: Global, count: usize) -> Result<Vec<Word>, AllocError>
     ensures { IfOk result (λ zeros. (k : ℕ) → slice_index zeros.items k ≡ 0) }
 {

@@ -19,9 +19,11 @@ use crate::request_name::RequestName;
 use crate::{Entry, LoggedAnswer, LoggedIssue};
 use std::alloc::AllocError;
 
-/// The first fault of the next entry of a list, or `None` where it has none; then the entry has acted on the memory. An error says that memory was refused.
+/// The first fault of the next entry of a list, or `None` where it has none; then the entry has
+/// acted on the memory. An error says that memory was refused.
 ///
-/// `names` has the log and the entries before this one, by name. They have acted on `memory`, and `from` is the first cycle after all their issues.
+/// `names` has the log and the entries before this one, by name. They have acted on `memory`, and
+/// `from` is the first cycle after all their issues.
 pub(crate) fn fault_of(
     names: &RecordsByName<'_>,
     from: u64,

@@ -13,7 +13,8 @@ use crate::request_name::RequestName;
 use crate::{Entry, Log, LoggedIssue};
 use std::alloc::{AllocError, Global};
 
-/// The entry that was issued last, and the cycle of its issue; of several that were issued in that cycle the first. `None` where none was issued. An error says that memory was refused.
+/// The entry that was issued last, and the cycle of its issue; of several that were issued in that
+/// cycle the first. `None` where none was issued. An error says that memory was refused.
 pub fn latest_issue(
     alloc: Global,
     log: &Log,

@@ -1,4 +1,5 @@
-//! The serial order of what a machine's requests did, its log, and whether a serial list explains a log.
+//! The serial order of what a machine's requests did, its log, and whether a serial list explains a
+//! log.
 #![tactic(auto)]
 
 mod by_name;

@@ -77,7 +77,8 @@ impl LogRecorder {
         Ok(())
     }
 
-    /// Records the first `cycles` cycles of a run, and gives the machine at the end. An error says that memory was refused.
+    /// Records the first `cycles` cycles of a run, and gives the machine at the end. An error says
+    /// that memory was refused.
     fn record(
         &mut self,
         alloc: Global,
@@ -95,7 +96,8 @@ impl LogRecorder {
         Ok(machine)
     }
 
-    /// Records a machine from its start for `cycles` cycles, or until it is quiet. An error says that memory was refused.
+    /// Records a machine from its start for `cycles` cycles, or until it is quiet. An error says
+    /// that memory was refused.
     fn record_cycles(&mut self, machine: &mut Machine, cycles: u32) -> Result<(), AllocError>
         requires cycles { cycles ≤ MOST_CYCLES }
         requires start { machine.old.state ≡ start machine.old.settings }
@@ -122,7 +124,8 @@ impl LogRecorder {
     }
 }
 
-/// What a run of n cycles, at most 1,000,000, issued and answered. `NoMemory` means that memory was refused.
+/// What a run of n cycles, at most 1,000,000, issued and answered. `NoMemory` means that memory was
+/// refused.
 pub fn log(
     alloc: Global,
     config: &Config,
@@ -136,7 +139,8 @@ pub fn log(
     Ok(log)
 }
 
-/// What a run of n cycles, at most 1,000,000, issued and answered, and the machine after them, or where it was quiet first. `NoMemory` means that memory was refused.
+/// What a run of n cycles, at most 1,000,000, issued and answered, and the machine after them, or
+/// where it was quiet first. `NoMemory` means that memory was refused.
 pub fn log_and_machine(
     alloc: Global,
     config: &Config,

@@ -25,7 +25,8 @@ impl Model for SerialMemory {
 }
 
 impl SerialMemory {
-    /// A memory with these cells, each given by its address and value; if an address occurs twice, the last value wins.
+    /// A memory with these cells, each given by its address and value; if an address occurs twice,
+    /// the last value wins.
     ///
     /// An error says that memory of the host was refused.
     pub fn new(alloc: Global, initial: &[(Cell, Word)]) -> Result<SerialMemory, AllocError>
@@ -49,7 +50,8 @@ impl SerialMemory {
 
     /// Has an operation act on a cell, and gives its reply.
     ///
-    /// An error says that memory of the host was refused, which happens only at a cell that was never given a value; the cells are then as before.
+    /// An error says that memory of the host was refused, which happens only at a cell that was
+    /// never given a value; the cells are then as before.
     pub fn act(&mut self, cell: Cell, op: Op) -> Result<Reply, AllocError>
         ensures reply { IfOk result (λ r. r ≡ (effect op (cell_in self.old cell)).1) }
         ensures cells { OnOk result (cell_in self.new ≡ with_cell (cell_in self.old) cell (effect op (cell_in self.old cell)).0) }

@@ -18,7 +18,8 @@ const ROWS: u32 = 64;
 #[derive(Drop)]
 pub(crate) struct PendingRequests {
     alloc: Global,
-    /// The requests, by the remainder of their processing element. There are no rows before the first request.
+    /// The requests, by the remainder of their processing element. There are no rows before the
+    /// first request.
     rows: Vec<PendingRow>,
     /// Lists that no request has any more, to be used again. What they hold doesn't matter.
     spare: Vec<Vec<NamedRequest>>,
@@ -50,7 +51,8 @@ impl PendingRequests {
         self.put(request.pe, request.cell, leaves)
     }
 
-    /// The requests of two processing elements for a cell have combined; the request that is sent for both keeps the identity of the old one.
+    /// The requests of two processing elements for a cell have combined; the request that is sent
+    /// for both keeps the identity of the old one.
     pub fn combine(
         &mut self,
         cell: Cell,

@@ -12,7 +12,8 @@ use crate::request_name::RequestName;
 use crate::{Entry, Log, LoggedAnswer, LoggedIssue};
 use std::alloc::{AllocError, Global};
 
-/// The issues and answers of a log, and the first entries of a list: each under its name, which is the processing element and the number.
+/// The issues and answers of a log, and the first entries of a list: each under its name, which is
+/// the processing element and the number.
 #[derive(Drop)]
 pub(crate) struct RecordsByName<'c> {
     log: &'c Log,

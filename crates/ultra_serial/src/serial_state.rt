@@ -29,7 +29,8 @@ impl From<AllocError> for OrderFault {
     }
 }
 
-/// What is on its way to memory in a run, the memory on which its requests act sequentially, and what was served in the last cycle.
+/// What is on its way to memory in a run, the memory on which its requests act sequentially, and
+/// what was served in the last cycle.
 #[derive(Drop)]
 pub(crate) struct SerialState {
     waiting: PendingRequests,

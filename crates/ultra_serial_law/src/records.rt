@@ -1,4 +1,5 @@
-//! What a run leaves behind: requests, when they were issued and answered, and the order in which they acted.
+//! What a run leaves behind: requests, when they were issued and answered, and the order in which
+//! they acted.
 
 use ultra_msg::{Cell, Op, Pe, Reply};
 

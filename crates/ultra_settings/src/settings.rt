@@ -179,7 +179,8 @@ fn is_key(text: &str) -> bool
 
 /// The settings that a text gives, once they are accepted.
 ///
-/// `BadField` names the first key whose value isn't accepted; `UnknownKey` comes only where all are.
+/// `BadField` names the first key whose value isn't accepted; `UnknownKey` comes only where all
+/// are.
 pub fn settings_from(alloc: Global, bytes: &[u8]) -> Result<Config, SettingsFault>
     ensures ok { IfOk result (λ c. (r : RawSettings) × Gives bytes.now r false ×
         (first_bad r ≡ None) × (c ≡ settings_of r)) }

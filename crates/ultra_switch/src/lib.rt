@@ -1,6 +1,9 @@
-//! The enhanced switch of the Omega network. It has queues toward memory, in which requests for one cell are combined, wait buffers that keep what is needed to answer them, and queues toward the processing elements.
+//! The enhanced switch of the Omega network. It has queues toward memory, in which requests for one
+//! cell are combined, wait buffers that keep what is needed to answer them, and queues toward the
+//! processing elements.
 //!
-//! Queues, wait buffers and pairwise combining are the 1983 paper's. Which entry combines and when, the places of the queues and their room rules are this project's profile.
+//! Queues, wait buffers and pairwise combining are the 1983 paper's. Which entry combines and when,
+//! the places of the queues and their room rules are this project's profile.
 #![tactic(auto)]
 
 ghost use Rattle.std.specs.Prelude.{◌≡◌, ℕ, ◌≤◌, IfOk};
@@ -27,13 +30,15 @@ pub const MOST_WAIT_PLACES: usize = 16;
 /// A request in a queue toward memory.
 #[derive(Clone, Copy, PartialEq, Eq, Debug, Drop)]
 pub struct QueueEntry {
-    /// What is sent to memory: the request that arrived, or what stands for it and the one that it combined with.
+    /// What is sent to memory: the request that arrived, or what stands for it and the one that it
+    /// combined with.
     pub request: Request,
     /// Whether it has combined in this queue.
     pub combined: bool,
 }
 
-/// What is kept of a combined pair, to answer its two requests from the one reply. The old request was in the queue when the new one came. What was sent for both has the identity of the old one.
+/// What is kept of a combined pair, to answer its two requests from the one reply. The old request
+/// was in the queue when the new one came. What was sent for both has the identity of the old one.
 #[derive(Clone, Copy, PartialEq, Eq, Debug, Default, Drop)]
 pub struct WaitRecord {
     /// The processing element of the old request.
@@ -62,7 +67,8 @@ pub enum Arrived {
 pub enum Split<M = ReplyMessage> {
     /// The reply itself: its request had not combined here.
     One(M),
-    /// The replies to the two requests of a combined pair: that to the one that was in the queue, then that to the one that came to it.
+    /// The replies to the two requests of a combined pair: that to the one that was in the queue,
+    /// then that to the one that came to it.
     Two(M, M),
 }
 
@@ -82,7 +88,8 @@ pub struct Ports<T> {
     pub one: T,
 }
 
-/// A switch of two by two: for each memory-side port a queue toward memory with its wait buffer, and for each PE-side port a queue toward the processing elements.
+/// A switch of two by two: for each memory-side port a queue toward memory with its wait buffer,
+/// and for each PE-side port a queue toward the processing elements.
 #[derive(Drop)]
 pub struct Switch {
     /// The queues toward memory, by the memory-side port.
@@ -92,7 +99,10 @@ pub struct Switch {
 }
 
 impl Switch {
-    /// A switch whose queues and wait buffers are empty. `request_places` are the places of each queue toward memory, at most `MOST_REQUEST_PLACES`. `reply_places` are those of each queue toward the processing elements. `wait_places` are those of each wait buffer, at most `MOST_WAIT_PLACES`.
+    /// A switch whose queues and wait buffers are empty. `request_places` are the places of each
+    /// queue toward memory, at most `MOST_REQUEST_PLACES`. `reply_places` are those of each queue
+    /// toward the processing elements. `wait_places` are those of each wait buffer, at most
+    /// `MOST_WAIT_PLACES`.
     ///
     /// `NoMemory` means that the memory for a queue was refused.
     pub fn new(

@@ -93,7 +93,8 @@ impl MarkedQueue {
         self.requests.push(request);
     }
 
-    /// Takes the request at the front out of the queue, or answers `None` where the queue is empty. The marks of the others move with them.
+    /// Takes the request at the front out of the queue, or answers `None` where the queue is empty.
+    /// The marks of the others move with them.
     pub(crate) fn pop(&mut self) -> Option<RequestPacket>
         ensures value { result ≡ request_of (slice_get self.old.entries 0) }
         ensures entries { self.new ≡ record self.old { entries = drop 1 self.old.entries } }

@@ -6,7 +6,8 @@ ghost use Rattle.ultra_switch.specs.declared.TheConstants.{MOST_REQUEST_PLACES};
 
 use std::marker::Model;
 
-/// Which requests of a queue have combined there: bit i of the word is the mark of the request at place i, counted from the front.
+/// Which requests of a queue have combined there: bit i of the word is the mark of the request at
+/// place i, counted from the front.
 #[derive(Clone, Copy, Drop)]
 pub(crate) struct Marks {
     word: u32,

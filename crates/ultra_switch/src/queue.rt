@@ -8,7 +8,8 @@ use std::alloc::{AllocError, Global};
 use std::marker::Model;
 use ultra_msg::Slot;
 
-/// A queue of a fixed number of places: the item at the front, and a ring of those behind it. Most queues of a switch hold no more than one message, which never goes through the ring.
+/// A queue of a fixed number of places: the item at the front, and a ring of those behind it. Most
+/// queues of a switch hold no more than one message, which never goes through the ring.
 #[derive(Drop)]
 pub(crate) struct Queue<T> {
     front: Slot<T>,

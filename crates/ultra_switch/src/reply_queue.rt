@@ -36,7 +36,8 @@ impl ToPe {
         })
     }
 
-    /// Whether at least 4 places of the queue are free: two replies may come by each memory-side port.
+    /// Whether at least 4 places of the queue are free: two replies may come by each memory-side
+    /// port.
     pub fn has_room(&self) -> bool
         ensures { result ≡ nat_le (length self.now.replies + 4) self.now.places }
     {

@@ -136,7 +136,10 @@ impl ToMm {
         self.queue.pop()
     }
 
-    /// A request arrives. If the wait buffer has a free place, it combines with the frontmost entry for its cell that hasn't combined in this queue. If there is no such entry or no free place, it goes to the end of the queue. The record of a combination goes behind those that are there.
+    /// A request arrives. If the wait buffer has a free place, it combines with the frontmost entry
+    /// for its cell that hasn't combined in this queue. If there is no such entry or no free place,
+    /// it goes to the end of the queue. The record of a combination goes behind those that are
+    /// there.
     pub fn arrive(&mut self, request: Request) -> Arrived
         requires { length self.old.lane.queue < self.old.request_places }
         ensures outcome { result ≡ arrival_of self.old request }
@@ -174,7 +177,9 @@ impl ToMm {
         }
     }
 
-    /// A reply comes back. If the wait buffer has a record of its processing element and cell, the oldest such record is removed. It gives the replies to the two requests of that pair. Otherwise the result is the reply itself.
+    /// A reply comes back. If the wait buffer has a record of its processing element and cell, the
+    /// oldest such record is removed. It gives the replies to the two requests of that pair.
+    /// Otherwise the result is the reply itself.
     pub fn split(&mut self, reply: ReplyMessage) -> Split
         ensures replies { replies_in result ≡ split_replies self.old reply }
         ensures records { self.new ≡ after_split self.old reply }
@@ -198,7 +203,8 @@ impl ToMm {
     }
 }
 
-/// A request combines with the request of an old entry: the request that stands for both, and what is kept of the two.
+/// A request combines with the request of an old entry: the request that stands for both, and what
+/// is kept of the two.
 fn combine(old: QueueEntry, request: Request) -> (Request, WaitRecord)
     ensures sent { result.0 ≡ sent_for old.request request }
     ensures kept { result.1 ≡ wait_record old request }

@@ -1,4 +1,5 @@
-//! Messages at the ends of the network: they leave memory modules and processing elements, and come to them.
+//! Messages at the ends of the network: they leave memory modules and processing elements, and come
+//! to them.
 
 ghost use Rattle.std.specs.Prelude.{◌≡◌, ◌^◌, ◌<◌, None, slice_set};
 ghost use Rattle.ultra_topology.specs.{Inlets.LeadsTo, Numbers.link_number as number_of_link, Links.put_on, Marks.delivery_link, Marks.memory_link, Marks.on_link, Units.IsElement, Units.IsModule};
@@ -9,7 +10,8 @@ use crate::unit_set::UnitNumber;
 use ultra_msg::{ReplyPacket, RequestPacket};
 use ultra_route::Net;
 
-/// A message, if there is one, leaves a memory module or a processing element for the switch `target`.
+/// A message, if there is one, leaves a memory module or a processing element for the switch
+/// `target`.
 #[inline(always)]
 pub fn send_from_end<M: Message>(
     links: &mut Links<M>,

@@ -1,6 +1,8 @@
 //! The units of a machine by their numbers: sets of them, and the links between them.
 //!
-//! `Wiring` says which unit has a number and what is beside each switch, and `Links` has the message on each link. Others say whether there is room for them where they go, and by which links they come.
+//! `Wiring` says which unit has a number and what is beside each switch, and `Links` has the
+//! message on each link. Others say whether there is room for them where they go, and by which
+//! links they come.
 #![tactic(auto)]
 
 mod ends;

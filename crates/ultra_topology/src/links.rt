@@ -14,7 +14,8 @@ use ultra_switch::{Ports, Slot};
 
 /// A kind of message. Each of its links leads to one unit.
 pub trait Message: Copy + Default {
-    /// By the number of stages and the number of a unit: the links by which messages of this kind come to the unit, if any can.
+    /// By the number of stages and the number of a unit: the links by which messages of this kind
+    /// come to the unit, if any can.
     ghost inlets: { ℕ → ℕ → Option (Ports ℕ) };
 }
 
@@ -26,7 +27,8 @@ impl Message for RequestPacket {
     ghost inlets = { request_inlets };
 }
 
-/// The links of a network by their numbers, each with the message on it, and the units to which messages lead.
+/// The links of a network by their numbers, each with the message on it, and the units to which
+/// messages lead.
 #[derive(Drop)]
 pub struct Links<M: Message> {
     net: Net,

@@ -16,7 +16,8 @@ pub fn switch_count(net: Net) -> usize
     (net.stages() * (net.size() / 2)) as usize
 }
 
-/// Whether all units of a machine, at most 64, are in the first word of a set: whether it has at most 4 stages.
+/// Whether all units of a machine, at most 64, are in the first word of a set: whether it has at
+/// most 4 stages.
 #[inline(always)]
 pub fn is_small(net: Net) -> bool
     ensures small { result ≡ true → IsSmall net }
@@ -59,7 +60,9 @@ pub fn element_number(net: Net, pe: u32) -> usize
     switch_count(net) + (net.size() + pe) as usize
 }
 
-/// The number of a link: that of the position of a stage from which it leads, counted over all stages. If `stage` is the number of stages, it leads from the module or the processing element with number `position`.
+/// The number of a link: that of the position of a stage from which it leads, counted over all
+/// stages. If `stage` is the number of stages, it leads from the module or the processing element
+/// with number `position`.
 #[inline(always)]
 pub(crate) fn link_number(net: Net, stage: u32, position: u32) -> usize
     requires stage { stage ≤ net }

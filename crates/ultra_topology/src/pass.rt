@@ -6,7 +6,9 @@ ghost use Rattle.ultra_topology.specs.declared.TheConstants.{MOST_UNITS};
 
 use crate::unit_set::{UnitNumber, UnitSet, WORDS};
 
-/// A walk over the units of a set, by their numbers, while the set may lose units. It keeps the units behind the one to which it has come, in the same word, so the next is known before this one has been visited.
+/// A walk over the units of a set, by their numbers, while the set may lose units. It keeps the
+/// units behind the one to which it has come, in the same word, so the next is known before this
+/// one has been visited.
 #[derive(Clone, Copy, Drop)]
 pub(crate) struct Walk {
     /// The unit.
@@ -76,7 +78,8 @@ pub trait Visit<T> {
         ensures idle { (k : ℕ) → has_unit result.now k ≡ false → is_idle self.now k target.now }
         ensures still { (k : ℕ) → is_idle self.now k target.now → visited self.now k target.now ≡ target.now };
 
-    /// Visits a unit. Where the conditions of later visits are met before it, they are met after it too, and later units that had nothing to do have nothing to do after it.
+    /// Visits a unit. Where the conditions of later visits are met before it, they are met after it
+    /// too, and later units that had nothing to do have nothing to do after it.
     fn visit(&self, target: &mut T, unit: UnitNumber)
         requires can { can_visit self.now unit target.old }
         ensures visited { target.new ≡ visited self.now unit target.old }
@@ -85,7 +88,8 @@ pub trait Visit<T> {
         ensures still { (k : ℕ) → is_idle self.now k target.new → visited self.now k target.new ≡ target.new };
 }
 
-/// Visits all units in the order of their numbers. It skips those that have nothing to do. With `SMALL`, these include all units that aren't in the first word, and the loop is inlined.
+/// Visits all units in the order of their numbers. It skips those that have nothing to do. With
+/// `SMALL`, these include all units that aren't in the first word, and the loop is inlined.
 ///
 /// Where none has anything to do, it takes no more than one look at the set.
 #[inline(always)]

@@ -19,7 +19,8 @@ pub enum Unit {
     Nothing,
 }
 
-/// The place of a number among the `size` numbers from `first` on, or `None` where it isn't one of those.
+/// The place of a number among the `size` numbers from `first` on, or `None` where it isn't one of
+/// those.
 #[inline(always)]
 pub(crate) fn place_from(number: usize, first: usize, size: usize) -> Option<u32>
     requires { first + size < 2 ^ 32 }

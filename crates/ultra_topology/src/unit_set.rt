@@ -11,7 +11,8 @@ use std::marker::Model;
 /// How many words of 64 bits a set takes.
 pub(crate) const WORDS: usize = MOST_UNITS / 64;
 
-/// A set of units, by their numbers, which are below `MOST_UNITS`: switches first, then modules, then processing elements.
+/// A set of units, by their numbers, which are below `MOST_UNITS`: switches first, then modules,
+/// then processing elements.
 #[derive(Clone, Copy, Drop)]
 pub struct UnitSet {
     // bit k % 64 of word k / 64 says that unit k is in the set
@@ -74,7 +75,8 @@ impl UnitNumber {
         }
     }
 
-    /// The word that says whether it is in a set. Its number is taken modulo 8, so that the compiler knows it to be small.
+    /// The word that says whether it is in a set. Its number is taken modulo 8, so that the
+    /// compiler knows it to be small.
     #[inline(always)]
     fn word(self) -> usize
         ensures { result ≡ self / 64 }
@@ -101,7 +103,8 @@ impl UnitSet {
         self.words[0] == 0 && self.is_in_first_word()
     }
 
-    /// The same as `is_empty`. In a `SMALL` machine only the first word is read, since no unit is past it.
+    /// The same as `is_empty`. In a `SMALL` machine only the first word is read, since no unit is
+    /// past it.
     #[inline(always)]
     #[tactic(auto, using(crate::proofs::Set::set_steps, crate::proofs::Set::zero_where_none))]
     pub fn is_empty_sized<const SMALL: bool>(&self) -> bool
@@ -220,7 +223,8 @@ impl UnitSet {
         Some(Walk::from_word(self, from / 64 + 1)?.unit.number())
     }
 
-    /// The units of the set from one number on that are in the same word: bit i says it of the unit whose number is greater by i. The number has to be below `MOST_UNITS`.
+    /// The units of the set from one number on that are in the same word: bit i says it of the unit
+    /// whose number is greater by i. The number has to be below `MOST_UNITS`.
     #[inline(always)]
     #[tactic(auto, using(crate::proofs::Set::bits_from))]
     pub fn rest_of_word(&self, from: usize) -> u64

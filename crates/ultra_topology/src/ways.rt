@@ -38,7 +38,8 @@ pub fn element_target<const SMALL: bool>(net: Net, pe: u32) -> UnitNumber
     UnitNumber::of(switch).narrow::<SMALL>()
 }
 
-/// Whether replies may go on from a switch, by the PE-side port, to the units `targets`. `closed` are the switches without room for replies.
+/// Whether replies may go on from a switch, by the PE-side port, to the units `targets`. `closed`
+/// are the switches without room for replies.
 #[inline(always)]
 pub fn find_reply_ways(closed: &UnitSet, stage: u32, targets: &Ports<UnitNumber>) -> Ports<bool>
     ensures { (net index : ℕ) → targets.now ≡ targets_of_replies net stage index → result ≡ reply_ways closed.now net stage index }
@@ -49,7 +50,8 @@ pub fn find_reply_ways(closed: &UnitSet, stage: u32, targets: &Ports<UnitNumber>
     }
 }
 
-/// Whether the queue that a request goes to has room, at this switch of a stage. `closed` are, by the memory-side port, the switches whose queue there has no room for requests.
+/// Whether the queue that a request goes to has room, at this switch of a stage. `closed` are, by
+/// the memory-side port, the switches whose queue there has no room for requests.
 #[inline(always)]
 fn has_room_at(
     net: Net,
@@ -68,7 +70,8 @@ fn has_room_at(
     }
 }
 
-/// Whether the first request of a queue may go on from a stage to the unit `target`. In `zero`, `closed` has also the modules whose register holds a request.
+/// Whether the first request of a queue may go on from a stage to the unit `target`. In `zero`,
+/// `closed` has also the modules whose register holds a request.
 #[inline(always)]
 pub fn has_request_way(
     net: Net,

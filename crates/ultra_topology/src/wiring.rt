@@ -74,7 +74,8 @@ fn as_units<const SMALL: bool>(numbers: Ports<u16>) -> Ports<UnitNumber>
     }
 }
 
-/// The links by which replies come to a unit, by its number. A processing element has one, which is the link at both ports. No replies come to a memory module.
+/// The links by which replies come to a unit, by its number. A processing element has one, which is
+/// the link at both ports. No replies come to a memory module.
 pub fn reply_inlets(net: Net, unit: usize) -> Option<Ports<usize>>
     ensures { result ≡ inlets_of_replies net unit }
 {
@@ -92,7 +93,8 @@ pub fn reply_inlets(net: Net, unit: usize) -> Option<Ports<usize>>
     })
 }
 
-/// The links by which requests come to a unit, by its number. A memory module has one, which is the link at both ports. No requests come to a processing element.
+/// The links by which requests come to a unit, by its number. A memory module has one, which is the
+/// link at both ports. No requests come to a processing element.
 pub fn request_inlets(net: Net, unit: usize) -> Option<Ports<usize>>
     ensures { result ≡ inlets_of_requests net unit }
 {
@@ -184,7 +186,8 @@ impl Wiring {
         }
     }
 
-    /// The module with this number, by its number among modules, or `None` where another unit or none has it.
+    /// The module with this number, by its number among modules, or `None` where another unit or
+    /// none has it.
     #[inline(always)]
     pub fn module(&self, number: usize) -> Option<u32>
         ensures value { result ≡ of_unit self.now (λ s k. None) Some (λ p. None) None number }
@@ -194,7 +197,8 @@ impl Wiring {
         place_from(number, self.modules, self.size)
     }
 
-    /// The processing element with this number, by its number among those, or `None` where another unit or none has it.
+    /// The processing element with this number, by its number among those, or `None` where another
+    /// unit or none has it.
     #[inline(always)]
     pub fn element(&self, number: usize) -> Option<u32>
         ensures value { result ≡ of_unit self.now (λ s k. None) (λ m. None) Some None number }

@@ -1,4 +1,5 @@
-//! A run by several workers, each in its own thread, and its trace, whole or in part. The run in the caller's thread, and what both share, is in `ultra_trace_alone`.
+//! A run by several workers, each in its own thread, and its trace, whole or in part. The run in
+//! the caller's thread, and what both share, is in `ultra_trace_alone`.
 #![tactic(auto)]
 
 mod running;

@@ -1,4 +1,5 @@
-//! The trace of a run by n workers, whole or in part: in the caller's thread for one (`ultra_trace_alone`), and else in a thread for each.
+//! The trace of a run by n workers, whole or in part: in the caller's thread for one
+//! (`ultra_trace_alone`), and else in a thread for each.
 
 ghost use Rattle.std.specs.Prelude.{◌≡◌, ◌≢◌, ◌+◌, ◌≤◌, List, ℕ, ◌++◌, OnOk, OnErr, IfErr};
 ghost use Rattle.ultra_msg.specs.Bytes.{TakesPrefix};
@@ -21,13 +22,21 @@ use ultra_trace_alone::{
     RunFault, RunText, TracePart, WholeTrace, new_blocks, run_alone, run_part_alone,
 };
 
-/// Runs a program on a machine of these settings by n workers, 1 to 64, and writes the trace to the sink. The bytes are the same for every number of workers and every gate. After a fault the sink has taken a prefix of them.
+/// Runs a program on a machine of these settings by n workers, 1 to 64, and writes the trace to the
+/// sink. The bytes are the same for every number of workers and every gate. After a fault the sink
+/// has taken a prefix of them.
 ///
-/// With `Ok` the whole headline holds (`Headline`). What was written is exactly the trace. The serial lists of this run are a chain of legal lists. The replies that the trace shows are the answers that these lists explain.
+/// With `Ok` the whole headline holds (`Headline`). What was written is exactly the trace. The
+/// serial lists of this run are a chain of legal lists. The replies that the trace shows are the
+/// answers that these lists explain.
 ///
-/// Unit `u` of the machine is in block `u` modulo the number of workers. With one worker the run is `run_alone`, and no gate is called. With several workers, each has its own thread, which is started once and kept for all cycles, and memory is asked for in each cycle. The call may wait. On every return path the threads that were started are joined.
+/// Unit `u` of the machine is in block `u` modulo the number of workers. With one worker the run is
+/// `run_alone`, and no gate is called. With several workers, each has its own thread, which is
+/// started once and kept for all cycles, and memory is asked for in each cycle. The call may wait.
+/// On every return path the threads that were started are joined.
 ///
-/// `Write` says that the sink failed, and `NoMemory` that memory was refused. `NoThread` says that a thread could not be started or died before finishing; with one worker it is never answered.
+/// `Write` says that the sink failed, and `NoMemory` that memory was refused. `NoThread` says that
+/// a thread could not be started or died before finishing; with one worker it is never answered.
 pub fn run<R: Threads + Wait + Sync, G: Gate + Sync, S: Sink>(
     rt: &R,
     alloc: Global,
@@ -57,9 +66,12 @@ pub fn run<R: Threads + Wait + Sync, G: Gate + Sync, S: Sink>(
     }
 }
 
-/// Runs a program on a machine of these settings by n workers, 1 to 64, and writes a part of the trace to the sink. The bytes are the same for every number of workers and every gate. After a fault the sink has taken a prefix of them. Cycles that aren't in the part take no time for text.
+/// Runs a program on a machine of these settings by n workers, 1 to 64, and writes a part of the
+/// trace to the sink. The bytes are the same for every number of workers and every gate. After a
+/// fault the sink has taken a prefix of them. Cycles that aren't in the part take no time for text.
 ///
-/// The workers, their threads and the faults are those of `run`; with one worker the run is `run_part_alone`.
+/// The workers, their threads and the faults are those of `run`; with one worker the run is
+/// `run_part_alone`.
 pub fn run_part<R: Threads + Wait + Sync, G: Gate + Sync, S: Sink>(
     rt: &R,
     alloc: Global,
@@ -87,7 +99,8 @@ pub fn run_part<R: Threads + Wait + Sync, G: Gate + Sync, S: Sink>(
     }
 }
 
-/// Runs a program on a machine of these settings by several workers, each in its own thread, and writes text of the run to the sink. After a fault the sink has taken a prefix of it.
+/// Runs a program on a machine of these settings by several workers, each in its own thread, and
+/// writes text of the run to the sink. After a fault the sink has taken a prefix of it.
 fn run_together<R: Threads + Wait + Sync, G: Gate + Sync, T: RunText, S: Sink>(
     rt: &R,
     alloc: Global,

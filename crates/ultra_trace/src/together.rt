@@ -21,7 +21,9 @@ use ultra_io::TextBuffer;
 use ultra_msg::Sink;
 use ultra_trace_alone::{RunFault, RunText, is_over, most_cycles};
 
-/// Runs a machine from its start by workers, and writes text of its run to a sink. The workers' threads are kept for the whole run, and joined at its end. After a fault the sink has taken a prefix of the text.
+/// Runs a machine from its start by workers, and writes text of its run to a sink. The workers'
+/// threads are kept for the whole run, and joined at its end. After a fault the sink has taken a
+/// prefix of the text.
 pub fn write_run_together<R: Threads + Wait + Sync, G: Gate + Sync, T: RunText, S: Sink>(
     rt: &R,
     alloc: Global,
@@ -44,7 +46,9 @@ pub fn write_run_together<R: Threads + Wait + Sync, G: Gate + Sync, T: RunText, 
     write_by_workers::<Brand, R, G, T, S>(rt, alloc, blocks, workers, gate, text, sink).1
 }
 
-/// Starts the workers to whom the units were dealt out, and has them run a machine from its start. It writes text of the run to a sink, and gives the sink back. On every return path the threads are joined.
+/// Starts the workers to whom the units were dealt out, and has them run a machine from its start.
+/// It writes text of the run to a sink, and gives the sink back. On every return path the threads
+/// are joined.
 fn write_by_workers<
     's,
     J: ExpectedResults + Send,
@@ -95,7 +99,9 @@ fn write_by_workers<
     )
 }
 
-/// Runs a machine from its start by the workers of a pool that was just started, writes text of its run to a sink, and lets the workers end. Why a pool couldn't be started is the run's fault. After a fault the sink has taken a prefix of the text.
+/// Runs a machine from its start by the workers of a pool that was just started, writes text of its
+/// run to a sink, and lets the workers end. Why a pool couldn't be started is the run's fault.
+/// After a fault the sink has taken a prefix of the text.
 fn write_by_started<J: ExpectedResults, R: Threads + Wait, T: RunText, S: Sink>(
     rt: &R,
     alloc: Global,
@@ -125,7 +131,8 @@ fn write_by_started<J: ExpectedResults, R: Threads + Wait, T: RunText, S: Sink>(
     }
 }
 
-/// Runs a machine from its start by the workers of a pool, and writes text of its run to a sink. After a fault the sink has taken a prefix of it.
+/// Runs a machine from its start by the workers of a pool, and writes text of its run to a sink.
+/// After a fault the sink has taken a prefix of it.
 fn write_by_pool<J: ExpectedResults, R: Wait, T: RunText, S: Sink>(
     rt: &R,
     alloc: Global,
@@ -151,7 +158,8 @@ fn write_by_pool<J: ExpectedResults, R: Wait, T: RunText, S: Sink>(
     }
 }
 
-/// Runs a machine from its start by workers, and writes text of its run. It ends early where the sink or a worker fails.
+/// Runs a machine from its start by workers, and writes text of its run. It ends early where the
+/// sink or a worker fails.
 fn put_text_together<J: ExpectedResults, R: Wait, T: RunText, S: Sink>(
     buffer: &mut TextBuffer<'_, S>,
     rt: &R,
@@ -182,7 +190,8 @@ fn put_text_together<J: ExpectedResults, R: Wait, T: RunText, S: Sink>(
     Ok(())
 }
 
-/// Runs a machine from its start to the end of its trace by workers, and writes the lines of all cycles. It ends early where the sink or a worker fails.
+/// Runs a machine from its start to the end of its trace by workers, and writes the lines of all
+/// cycles. It ends early where the sink or a worker fails.
 fn put_cycles_together<J: ExpectedResults, R: Wait, T: RunText, S: Sink>(
     buffer: &mut TextBuffer<'_, S>,
     rt: &R,

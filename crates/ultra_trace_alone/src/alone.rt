@@ -14,7 +14,8 @@ use ultra_block::Blocks;
 use ultra_io::TextBuffer;
 use ultra_msg::{Sink, SinkFault};
 
-/// Runs a machine from its start, and writes text of its run to a sink. After a fault the sink has taken a prefix of it.
+/// Runs a machine from its start, and writes text of its run to a sink. After a fault the sink has
+/// taken a prefix of it.
 pub(crate) fn write_text<T: RunText, S: Sink>(
     blocks: &mut Blocks,
     text: &mut T,
@@ -48,7 +49,8 @@ fn put_text<T: RunText, S: Sink>(buffer: &mut TextBuffer<'_, S>, blocks: &mut Bl
     text.put_closing(buffer, blocks);
 }
 
-/// Runs a machine from its start to the end of its trace, and writes the lines of all cycles. It ends early where the sink fails.
+/// Runs a machine from its start to the end of its trace, and writes the lines of all cycles. It
+/// ends early where the sink fails.
 fn put_cycles<T: RunText, S: Sink>(
     buffer: &mut TextBuffer<'_, S>,
     blocks: &mut Blocks,
@@ -71,7 +73,8 @@ fn put_cycles<T: RunText, S: Sink>(
     }
 }
 
-/// Whether a run ends with the last cycle, before the settings' limit: where the machine is quiet, or the sink has failed.
+/// Whether a run ends with the last cycle, before the settings' limit: where the machine is quiet,
+/// or the sink has failed.
 #[inline(always)]
 pub fn is_over<S: Sink>(buffer: &TextBuffer<'_, S>, blocks: &Blocks) -> bool
     ensures { result ≡ (is_quiet blocks.now.machine || has_failed buffer.now) }

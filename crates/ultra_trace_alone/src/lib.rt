@@ -1,4 +1,5 @@
-//! A run in the caller's thread, and its trace, whole or in part; and what a run by several workers shares with it.
+//! A run in the caller's thread, and its trace, whole or in part; and what a run by several workers
+//! shares with it.
 #![tactic(auto)]
 
 mod alone;

@@ -19,11 +19,15 @@ use ultra_isa::Program;
 use ultra_model::Config;
 use ultra_msg::Sink;
 
-/// Runs a program on a machine of these settings in the caller's thread, and writes the trace to the sink. After a fault the sink has taken a prefix of it.
+/// Runs a program on a machine of these settings in the caller's thread, and writes the trace to
+/// the sink. After a fault the sink has taken a prefix of it.
 ///
-/// With `Ok` the whole headline holds (`Headline`). What was written is exactly the trace. The serial lists of this run are a chain of legal lists. The replies that the trace shows are the answers that these lists explain.
+/// With `Ok` the whole headline holds (`Headline`). What was written is exactly the trace. The
+/// serial lists of this run are a chain of legal lists. The replies that the trace shows are the
+/// answers that these lists explain.
 ///
-/// `Write` says that the sink failed, and `NoMemory` that memory was refused; it is asked for only before the first byte is written. `NoThread` is never answered.
+/// `Write` says that the sink failed, and `NoMemory` that memory was refused; it is asked for only
+/// before the first byte is written. `NoThread` is never answered.
 pub fn run_alone<S: Sink>(
     alloc: Global,
     config: &Config,
@@ -43,7 +47,9 @@ pub fn run_alone<S: Sink>(
     write_run(alloc, config, program, WholeTrace, sink)
 }
 
-/// Runs a program on a machine of these settings in the caller's thread, and writes a part of the trace to the sink. After a fault the sink has taken a prefix of it. Cycles that aren't in the part take no time for text.
+/// Runs a program on a machine of these settings in the caller's thread, and writes a part of the
+/// trace to the sink. After a fault the sink has taken a prefix of it. Cycles that aren't in the
+/// part take no time for text.
 ///
 /// The faults are those of `run_alone`.
 pub fn run_part_alone<S: Sink>(
@@ -63,7 +69,8 @@ pub fn run_part_alone<S: Sink>(
     write_run(alloc, config, program, part, sink)
 }
 
-/// Runs a program on a machine of these settings, in one block, in the caller's thread, and writes text of the run to the sink. After a fault the sink has taken a prefix of it.
+/// Runs a program on a machine of these settings, in one block, in the caller's thread, and writes
+/// text of the run to the sink. After a fault the sink has taken a prefix of it.
 ///
 /// The faults are those of `run_alone`.
 pub fn write_run<T: RunText, S: Sink>(

@@ -11,7 +11,8 @@ use ultra_block::{Blocks, PartitionFault, count_units};
 use ultra_isa::Program;
 use ultra_model::Config;
 
-/// The machine before its first cycle, cut for n workers: unit `u` is in block `u` modulo n. An error says that memory was refused.
+/// The machine before its first cycle, cut for n workers: unit `u` is in block `u` modulo n. An
+/// error says that memory was refused.
 pub fn new_blocks(
     alloc: Global,
     config: &Config,
@@ -34,7 +35,8 @@ pub fn new_blocks(
     }
 }
 
-/// The partition that deals the units out to n workers in turn. An error says that memory was refused.
+/// The partition that deals the units out to n workers in turn. An error says that memory was
+/// refused.
 fn dealt_out(alloc: Global, config: &Config, workers: u8) -> Result<Vec<u8>, AllocError>
     requires some { 1 ≤ workers }
     requires most { workers ≤ 64 }

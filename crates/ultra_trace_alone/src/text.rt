@@ -12,7 +12,8 @@ use ultra_block::Blocks;
 use ultra_io::TextBuffer;
 use ultra_msg::Sink;
 
-/// What is written of a run: an opening before the first cycle, lines of each cycle, and a closing after the last. It may keep what it needs of earlier cycles.
+/// What is written of a run: an opening before the first cycle, lines of each cycle, and a closing
+/// after the last. It may keep what it needs of earlier cycles.
 pub trait RunText: Drop {
     /// The text before the first cycle.
     ghost opening: { List ℕ };
@@ -33,7 +34,8 @@ pub trait RunText: Drop {
     fn put_opening<S: Sink>(&self, buffer: &mut TextBuffer<'_, S>)
         ensures { Writes S.taken S.failures opening buffer.old buffer.new };
 
-    /// Writes the lines of the last cycle, whose number is `cycle`. The lines of other cycles stay the same.
+    /// Writes the lines of the last cycle, whose number is `cycle`. The lines of other cycles stay
+    /// the same.
     fn put_lines<S: Sink>(&mut self, buffer: &mut TextBuffer<'_, S>, blocks: &Blocks, cycle: u32)
         requires takes { takes blocks.now.count }
         requires few { cycle < MOST_CYCLES }

@@ -13,9 +13,11 @@ use ultra_block::Blocks;
 use ultra_io::TextBuffer;
 use ultra_msg::{Sink, SinkFault};
 
-/// Writes the lines of the last cycle to the sink. After a fault the sink has taken a prefix of them.
+/// Writes the lines of the last cycle to the sink. After a fault the sink has taken a prefix of
+/// them.
 ///
-/// The machine has to have made at least one cycle. The lines take no memory, and go to the sink in large pieces.
+/// The machine has to have made at least one cycle. The lines take no memory, and go to the sink in
+/// large pieces.
 pub fn write_cycle<S: Sink>(blocks: &Blocks, sink: &mut S) -> Result<(), SinkFault>
     requires { 0 < blocks.now.machine.cycles }
     ensures ok { OnOk result (S.taken sink.new ≡ S.taken sink.old ++ cycle_text blocks.now.config blocks.now.machine) }
@@ -28,7 +30,8 @@ pub fn write_cycle<S: Sink>(blocks: &Blocks, sink: &mut S) -> Result<(), SinkFau
     buffer.finish()
 }
 
-/// Writes the lines of the last cycle in a buffer: its number, what happened, and what the units hold afterwards.
+/// Writes the lines of the last cycle in a buffer: its number, what happened, and what the units
+/// hold afterwards.
 pub fn put_cycle<S: Sink>(buffer: &mut TextBuffer<'_, S>, blocks: &Blocks)
     requires { 0 < blocks.now.machine.cycles }
     ensures { Writes S.taken S.failures (cycle_text blocks.now.config blocks.now.machine) buffer.old buffer.new }

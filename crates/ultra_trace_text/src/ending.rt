@@ -12,7 +12,8 @@ use ultra_io::TextBuffer;
 use ultra_isa::Processor;
 use ultra_msg::{Cell, Pe, Register, Sink, Word};
 
-/// Writes the lines at the end: how the run ended, the cells that aren't 0, and the processing elements.
+/// Writes the lines at the end: how the run ended, the cells that aren't 0, and the processing
+/// elements.
 pub fn put_end<S: Sink>(buffer: &mut TextBuffer<'_, S>, blocks: &Blocks)
     ensures { Writes S.taken S.failures (end_text blocks.now.config blocks.now.machine) buffer.old buffer.new }
 {
@@ -63,7 +64,8 @@ pub fn put_cell<S: Sink>(buffer: &mut TextBuffer<'_, S>, address: Cell, value: W
     }
 }
 
-/// Writes the line of a processing element, as `pe 0 halted 3 r2=1`: what it is doing, its program counter, and its registers that aren't 0.
+/// Writes the line of a processing element, as `pe 0 halted 3 r2=1`: what it is doing, its program
+/// counter, and its registers that aren't 0.
 pub fn put_pe<S: Sink>(buffer: &mut TextBuffer<'_, S>, pe: Pe, processor: &Processor)
     ensures { Writes S.taken S.failures (pe_line pe processor.now.core) buffer.old buffer.new }
 {

@@ -12,7 +12,8 @@ use ultra_io::TextBuffer;
 use ultra_model::Stop;
 use ultra_msg::{Event, Sink};
 
-/// Writes the lines of what happened in the last cycle: first what was delivered, then what was served, then who faulted.
+/// Writes the lines of what happened in the last cycle: first what was delivered, then what was
+/// served, then who faulted.
 #[inline(always)]
 pub(crate) fn put_events<S: Sink>(buffer: &mut TextBuffer<'_, S>, blocks: &Blocks)
     ensures { Writes S.taken S.failures (events_text blocks.now.machine.events blocks.now.machine.stops) buffer.old buffer.new }

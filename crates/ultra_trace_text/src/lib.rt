@@ -1,4 +1,5 @@
-//! The lines of a trace, of a machine's last cycle and of its end. What they say and in which order is this project's profile.
+//! The lines of a trace, of a machine's last cycle and of its end. What they say and in which order
+//! is this project's profile.
 #![tactic(auto)]
 
 mod cycle;

@@ -1,4 +1,5 @@
-//! The lines of what waits in a machine: in interfaces, queues, wait buffers and the registers of modules. What is empty has no line.
+//! The lines of what waits in a machine: in interfaces, queues, wait buffers and the registers of
+//! modules. What is empty has no line.
 
 ghost use Rattle.ultra_model.specs.Trace.{pni_line, req_line, wait_line, inp_line, out_line, rep_line};
 ghost use Rattle.ultra_io.specs.TextBuffer.{Writes};
@@ -11,7 +12,8 @@ use ultra_msg::Sink;
 use ultra_pni::Pni;
 use ultra_switch::{ToMm, ToPe};
 
-/// Writes the line of a processing element's requests that are not yet in the network, as `pni 0: 0@5 faa 1`.
+/// Writes the line of a processing element's requests that are not yet in the network, as `pni 0:
+/// 0@5 faa 1`.
 pub(crate) fn put_pni<S: Sink>(buffer: &mut TextBuffer<'_, S>, pe: u32, interface: &Pni)
     ensures { Writes S.taken S.failures (pni_line pe interface.now.interface.pending) buffer.old buffer.new }
 {
@@ -21,7 +23,8 @@ pub(crate) fn put_pni<S: Sink>(buffer: &mut TextBuffer<'_, S>, pe: u32, interfac
     }
 }
 
-/// Writes the line of a queue toward memory, at a memory-side position of a stage, as `req 0 1: 1@0 faa 2 *`.
+/// Writes the line of a queue toward memory, at a memory-side position of a stage, as `req 0 1: 1@0
+/// faa 2 *`.
 pub(crate) fn put_req<S: Sink>(
     buffer: &mut TextBuffer<'_, S>,
     stage: u32,
@@ -36,7 +39,8 @@ pub(crate) fn put_req<S: Sink>(
     }
 }
 
-/// Writes the line of a wait buffer, at a memory-side position of a stage, as `wait 0 1: 1@0 same 0 plus 1`.
+/// Writes the line of a wait buffer, at a memory-side position of a stage, as `wait 0 1: 1@0 same 0
+/// plus 1`.
 pub(crate) fn put_wait<S: Sink>(
     buffer: &mut TextBuffer<'_, S>,
     stage: u32,
@@ -73,7 +77,8 @@ pub(crate) fn put_out<S: Sink>(buffer: &mut TextBuffer<'_, S>, module: u32, memo
     }
 }
 
-/// Writes the line of a queue toward the processing elements, at a PE-side position of a stage, as `rep 0 1: 1@0 = 0`.
+/// Writes the line of a queue toward the processing elements, at a PE-side position of a stage, as
+/// `rep 0 1: 1@0 = 0`.
 pub(crate) fn put_rep<S: Sink>(
     buffer: &mut TextBuffer<'_, S>,
     stage: u32,

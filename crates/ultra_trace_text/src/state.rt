@@ -31,7 +31,8 @@ pub(crate) fn put_state<S: Sink>(buffer: &mut TextBuffer<'_, S>, blocks: &Blocks
     }
 }
 
-/// Writes what the units of a machine in one block hold. A `SMALL` machine uses a specialised copy of the code.
+/// Writes what the units of a machine in one block hold. A `SMALL` machine uses a specialised copy
+/// of the code.
 #[inline(always)]
 fn put_state_of_one<const SMALL: bool, S: Sink>(buffer: &mut TextBuffer<'_, S>, blocks: &Blocks)
     requires one { blocks.now.count ≡ 1 }
@@ -80,7 +81,8 @@ fn put_all_held<const SMALL: bool, S: Sink>(
     put_switches::<SMALL, S>(buffer, blocks, net, Held::Reply, replies);
 }
 
-/// Writes the lines of the requests that are not yet in the network, by processing element. `holders` are the units that hold requests.
+/// Writes the lines of the requests that are not yet in the network, by processing element.
+/// `holders` are the units that hold requests.
 #[inline(always)]
 fn put_interfaces<const SMALL: bool, S: Sink>(
     buffer: &mut TextBuffer<'_, S>,
@@ -98,7 +100,8 @@ fn put_interfaces<const SMALL: bool, S: Sink>(
     }
 }
 
-/// Writes the lines of what switches hold of one kind, by stage, then position: the queues of requests or of replies, or the wait buffers. `holders` are the units that hold it.
+/// Writes the lines of what switches hold of one kind, by stage, then position: the queues of
+/// requests or of replies, or the wait buffers. `holders` are the units that hold it.
 #[inline(always)]
 fn put_switches<const SMALL: bool, S: Sink>(
     buffer: &mut TextBuffer<'_, S>,
@@ -141,7 +144,8 @@ fn put_port<S: Sink>(
     }
 }
 
-/// Writes the lines of the requests that wait for their modules, by module. `holders` are the units that hold requests.
+/// Writes the lines of the requests that wait for their modules, by module. `holders` are the units
+/// that hold requests.
 #[inline(always)]
 fn put_requests_to_serve<const SMALL: bool, S: Sink>(
     buffer: &mut TextBuffer<'_, S>,
@@ -159,7 +163,8 @@ fn put_requests_to_serve<const SMALL: bool, S: Sink>(
     }
 }
 
-/// Writes the lines of the replies that wait to leave their modules, by module. `holders` are the units that hold replies.
+/// Writes the lines of the replies that wait to leave their modules, by module. `holders` are the
+/// units that hold replies.
 #[inline(always)]
 fn put_replies_to_leave<const SMALL: bool, S: Sink>(
     buffer: &mut TextBuffer<'_, S>,
@@ -190,7 +195,8 @@ fn place_of(net: Net, switch: u32) -> (u32, u32)
     (switch / half, 2 * (switch % half))
 }
 
-/// How many positions each side of a stage has, which is the number of processing elements and of modules.
+/// How many positions each side of a stage has, which is the number of processing elements and of
+/// modules.
 pub(crate) fn positions(blocks: &Blocks) -> u32
     ensures value { result ≡ size blocks.now.config }
     ensures even { 2 * 2 ^ (blocks.now.config.stages - 1) ≡ result }

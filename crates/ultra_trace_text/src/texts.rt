@@ -70,7 +70,8 @@ pub(crate) fn write_request<S: Sink>(
     write_op(buffer, at, request.op)
 }
 
-/// Writes an entry of a queue toward memory: a request, and ` *` if it has combined there. That takes at most 40 bytes.
+/// Writes an entry of a queue toward memory: a request, and ` *` if it has combined there. That
+/// takes at most 40 bytes.
 #[inline(always)]
 pub(crate) fn write_entry<S: Sink>(
     buffer: &mut TextBuffer<'_, S>,
@@ -162,7 +163,8 @@ pub(crate) fn write_record<S: Sink>(
     write_give(buffer, at, kept.give_new)
 }
 
-/// Begins a line that belongs to a module or a processing element, as `inp 0: `. The word has at most 5 bytes, with the space behind it.
+/// Begins a line that belongs to a module or a processing element, as `inp 0: `. The word has at
+/// most 5 bytes, with the space behind it.
 #[inline(always)]
 pub(crate) fn begin_unit<S: Sink, const N: usize>(
     buffer: &mut TextBuffer<'_, S>,
@@ -179,7 +181,8 @@ pub(crate) fn begin_unit<S: Sink, const N: usize>(
     buffer.write(at, b": ")
 }
 
-/// Begins a line that belongs to a position of a stage, as `req 0 1: `. The word has at most 5 bytes, with the space behind it.
+/// Begins a line that belongs to a position of a stage, as `req 0 1: `. The word has at most 5
+/// bytes, with the space behind it.
 #[inline(always)]
 pub(crate) fn begin_place<S: Sink, const N: usize>(
     buffer: &mut TextBuffer<'_, S>,

@@ -20,7 +20,8 @@ pub fn height<A: Allocator>(tree: &Tree<A>) -> u64
     highest
 }
 
-/// The depth of a leaf: n if it is in n pairs, each within another. Its place, from 0, is that in the text of the tree, where old comes before new.
+/// The depth of a leaf: n if it is in n pairs, each within another. Its place, from 0, is that in
+/// the text of the tree, where old comes before new.
 fn depth_of<A: Allocator>(tree: &CountedNode<A>, place: u64) -> u64
     requires right_counts { HasRightCounts tree.now }
     requires within { place < leaf_count tree.now }

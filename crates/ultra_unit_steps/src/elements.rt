@@ -28,14 +28,16 @@ pub enum StepOutcome {
     Issued(Event),
     /// It faulted.
     Faulted(Stop),
-    /// Nothing has changed, and nothing will until a reply is delivered: it has to wait for one, or it had stopped before.
+    /// Nothing has changed, and nothing will until a reply is delivered: it has to wait for one, or
+    /// it had stopped before.
     AtRest,
 }
 
 impl ProcessingElement {
     ghost use Rattle.ultra_unit_steps.specs.Elements.{delivered_to, element_of, element_without, executed, holds_request, is_at_rest, issue_in, quiet_element, step_at, stop_in};
 
-    /// A reply is delivered: its register is set, if it has one, and its cell is no longer open. The cell has to be open, and its request has to have left the list.
+    /// A reply is delivered: its register is set, if it has one, and its cell is no longer open.
+    /// The cell has to be open, and its request has to have left the list.
     pub fn deliver(&mut self, reply: ReplyMessage)
         requires { CanDeliver reply.cell self.old.interface.interface }
         ensures { self.new ≡ delivered_to self.old (Some reply) }

@@ -1,7 +1,8 @@
-//! What each half of a cycle does to one unit of the machine: to a switch, to a memory module, to a processing element.
+//! What each half of a cycle does to one unit of the machine: to a switch, to a memory module, to a
+//! processing element.
 //!
-//! A unit doesn't know its neighbours: the caller says what goes on, and brings what comes. When a message goes on, and
-//! in which order, is this project's profile.
+//! A unit doesn't know its neighbours: the caller says what goes on, and brings what comes. When a
+//! message goes on, and in which order, is this project's profile.
 #![tactic(auto)]
 
 ghost use Rattle.std.specs.Prelude.{◌≡◌, ◌<◌, ◌≤◌, ◌++◌, ◌∷◌, [], length, vec_capacity};

@@ -20,7 +20,8 @@ pub fn send_reply_if(memory_module: &mut Module, goes: bool) -> Option<ReplyPack
     }
 }
 
-/// A request goes into the module's register, with the offset of its cell. The cell is one of the module's, and the register is empty.
+/// A request goes into the module's register, with the offset of its cell. The cell is one of the
+/// module's, and the register is empty.
 pub fn take_request(memory_module: &mut Module, net: Net, request: RequestPacket)
     requires within { request.cell / 2 ^ net < length memory_module.old.cells }
     requires empty { memory_module.old.inp ≡ None }

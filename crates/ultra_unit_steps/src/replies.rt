@@ -8,7 +8,8 @@ use ultra_msg::ReplyPacket;
 use ultra_route::Net;
 use ultra_switch::{Ports, Split, ToMm, ToPe};
 
-/// The first reply of a queue leaves, if there is room for it where it goes. The result is `None` where nothing leaves.
+/// The first reply of a queue leaves, if there is room for it where it goes. The result is `None`
+/// where nothing leaves.
 #[inline(always)]
 pub fn send_head_if(has_room: bool, queue: &mut ToPe) -> Option<ReplyPacket>
     ensures sent { result ≡ where_room has_room (slice_get queue.old.replies 0) }
@@ -32,7 +33,9 @@ fn put_reply(to_pe: &mut Ports<ToPe>, net: Net, stage: u32, reply: ReplyPacket)
     }
 }
 
-/// A reply, if there is one, comes to a memory-side port of a switch. The wait buffer there splits it, and each resulting reply goes to the queue by which it leaves this stage. Where a reply came, both queues have at least 2 free places.
+/// A reply, if there is one, comes to a memory-side port of a switch. The wait buffer there splits
+/// it, and each resulting reply goes to the queue by which it leaves this stage. Where a reply
+/// came, both queues have at least 2 free places.
 #[inline(always)]
 pub fn take_reply(
     to_mm: &mut ToMm,

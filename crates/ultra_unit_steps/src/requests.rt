@@ -10,7 +10,8 @@ use ultra_msg::{Event, Pe, RequestPacket};
 use ultra_route::Net;
 use ultra_switch::{Arrived, Ports, ToMm, WaitRecord};
 
-/// The first request of a queue toward memory leaves, if there is room for it where it goes. The result is `None` where nothing leaves.
+/// The first request of a queue toward memory leaves, if there is room for it where it goes. The
+/// result is `None` where nothing leaves.
 #[inline(always)]
 pub fn send_head_if(has_room: bool, queue: &mut ToMm) -> Option<RequestPacket>
     ensures sent { result ≡ where_room has_room (request_of (slice_get queue.old.lane.queue 0)) }
@@ -19,7 +20,8 @@ pub fn send_head_if(has_room: bool, queue: &mut ToMm) -> Option<RequestPacket>
     if has_room { queue.leave_packet() } else { None }
 }
 
-/// Appends the combination of a request with one of the processing element `old`, which left `wait_record`.
+/// Appends the combination of a request with one of the processing element `old`, which left
+/// `wait_record`.
 #[inline(always)]
 fn append_combination(
     events: &mut Vec<Event>,
@@ -44,7 +46,8 @@ fn append_combination(
     append(events, event);
 }
 
-/// A request comes to a queue toward memory, which is at a position of a stage: it combines, or it goes to the end. Its combination is appended to `events`. Answers whether there is one.
+/// A request comes to a queue toward memory, which is at a position of a stage: it combines, or it
+/// goes to the end. Its combination is appended to `events`. Answers whether there is one.
 #[inline(always)]
 #[tactic(auto, using(crate::proofs::Arrivals::arrivals))]
 fn arrive(
@@ -72,7 +75,9 @@ fn arrive(
     }
 }
 
-/// What came to a port of the switch goes to the queue by which it leaves the stage. `index` is the number of the switch in its stage. Its combination is appended to `events`. Answers whether there is one.
+/// What came to a port of the switch goes to the queue by which it leaves the stage. `index` is the
+/// number of the switch in its stage. Its combination is appended to `events`. Answers whether
+/// there is one.
 #[inline(always)]
 pub fn take_request(
     to_mm: &mut Ports<ToMm>,

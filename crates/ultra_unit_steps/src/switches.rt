@@ -14,7 +14,8 @@ pub fn holds_replies(switch: &Switch) -> bool
     !(zero.is_empty() && one.is_empty())
 }
 
-/// Whether both queues toward the processing elements have at least 4 free places, for all that may come to the switch in one cycle.
+/// Whether both queues toward the processing elements have at least 4 free places, for all that may
+/// come to the switch in one cycle.
 #[inline(always)]
 pub fn has_reply_room(switch: &Switch) -> bool
     ensures { result ≡ has_reply_room switch.now }
@@ -41,7 +42,8 @@ pub fn keeps_records(switch: &Switch) -> bool
     !(zero.record_count() == 0 && one.record_count() == 0)
 }
 
-/// By the memory-side port, whether the queue toward memory has at least 2 free places, for all that may come to it in one cycle.
+/// By the memory-side port, whether the queue toward memory has at least 2 free places, for all
+/// that may come to it in one cycle.
 #[inline(always)]
 pub fn has_request_room(switch: &Switch) -> Ports<bool>
     ensures { result ≡ has_request_room switch.now }

@@ -18,7 +18,8 @@ use ultra_msg::{Cell, Word};
 use ultra_serial::{BreachKind, CheckFault, check, latest_issue, log_and_machine};
 use ultra_serial_law::{Entry, Log};
 
-/// The verdict on a list for a run with the cycles of its trace. An error says that memory was refused.
+/// The verdict on a list for a run with the cycles of its trace. An error says that memory was
+/// refused.
 pub fn judge(
     alloc: Global,
     config: &Config,
@@ -128,7 +129,8 @@ impl Case<'_> {
         }
     }
 
-    /// The verdict on an entry that was answered before an earlier one was issued, or in that cycle. An error says that memory was refused.
+    /// The verdict on an entry that was answered before an earlier one was issued, or in that
+    /// cycle. An error says that memory was refused.
     fn too_late(&self, alloc: Global, index: usize) -> Result<Verdict, AllocError>
         requires { IsFirstWrongOf self.now kind.TooLate index }
         ensures { IfOk result (IsVerdictOf self.now) }

@@ -9,7 +9,8 @@ use std::alloc::{AllocError, Global};
 use ultra_machine::Machine;
 use ultra_msg::{Cell, Word};
 
-/// The cells of a machine that don't hold 0, each by its address and value. An error says that memory was refused.
+/// The cells of a machine that don't hold 0, each by its address and value. An error says that
+/// memory was refused.
 pub(crate) fn last_cells(alloc: Global, machine: &Machine) -> Result<Vec<(Cell, Word)>, AllocError>
     requires { HasShape machine.now.settings machine.now.state }
     ensures { IfOk result

@@ -1,4 +1,5 @@
-//! The verdict on a serial list: it is legal for a run, or what its first breach is. The line that says so is this project's profile.
+//! The verdict on a serial list: it is legal for a run, or what its first breach is. The line that
+//! says so is this project's profile.
 #![tactic(auto)]
 
 mod fault;
@@ -21,9 +22,11 @@ use ultra_msg::Sink;
 use ultra_serial_law::Entry;
 pub use verdict::Verdict;
 
-/// Writes the verdict on a list for a run, and says whether the list is legal: `legal`, or a line that says what its first breach is. The run has the cycles of its trace.
+/// Writes the verdict on a list for a run, and says whether the list is legal: `legal`, or a line
+/// that says what its first breach is. The run has the cycles of its trace.
 ///
-/// `NoMemory` says that memory was refused; it is asked for only before the first byte is written. `Write` says that the sink failed; it has then taken a prefix of the line.
+/// `NoMemory` says that memory was refused; it is asked for only before the first byte is written.
+/// `Write` says that the sink failed; it has then taken a prefix of the line.
 pub fn write_verdict<S: Sink>(
     alloc: Global,
     config: &Config,

@@ -6,7 +6,8 @@ ghost use Rattle.ultra_verdict.specs.Judged.{is_legal};
 use ultra_msg::{Reply, Word};
 use ultra_serial_law::Entry;
 
-/// The verdict on a serial list: it is legal, or what its first breach is, with the values that show it. Lines count from 1.
+/// The verdict on a serial list: it is legal, or what its first breach is, with the values that
+/// show it. Lines count from 1.
 #[derive(Clone, Copy, PartialEq, Eq, Debug, Drop)]
 pub enum Verdict {
     /// The list explains the run.
@@ -33,7 +34,8 @@ pub enum Verdict {
         entry: Entry,
         machine: Reply,
     },
-    /// The request was answered in a cycle, and `after`, an entry before it, was issued only then or later. No entry before was issued later than `after`.
+    /// The request was answered in a cycle, and `after`, an entry before it, was issued only then
+    /// or later. No entry before was issued later than `after`.
     TooLate {
         line: usize,
         entry: Entry,

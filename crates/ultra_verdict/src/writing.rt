@@ -80,7 +80,8 @@ fn put_words<S: Sink>(buffer: &mut TextBuffer<'_, S>, verdict: &Verdict)
     }
 }
 
-/// Puts an entry's line and what is wrong with it in a buffer, as `line 2: repeated: 0.0 faa 0 1 = 1`.
+/// Puts an entry's line and what is wrong with it in a buffer, as `line 2: repeated: 0.0 faa 0 1 =
+/// 1`.
 fn put_refusal<S: Sink>(buffer: &mut TextBuffer<'_, S>, line: usize, words: &[u8], entry: &Entry)
     ensures { Writes S.taken S.failures (refusal_text line words.now entry.now)
         buffer.old buffer.new }
@@ -91,7 +92,8 @@ fn put_refusal<S: Sink>(buffer: &mut TextBuffer<'_, S>, line: usize, words: &[u8
     put_entry(buffer, entry);
 }
 
-/// Puts in a buffer when a request was answered, and which entry before it was issued when, as `, answered in 7, after 1.1, issued in 9`.
+/// Puts in a buffer when a request was answered, and which entry before it was issued when, as `,
+/// answered in 7, after 1.1, issued in 9`.
 fn put_lateness<S: Sink>(buffer: &mut TextBuffer<'_, S>, answered: u32, after: &Entry, issued: u32)
     ensures { Writes S.taken S.failures (lateness_text answered after.now issued)
         buffer.old buffer.new }

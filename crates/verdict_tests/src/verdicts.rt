@@ -10,7 +10,8 @@ use ultra_list::read_list;
 use ultra_model::{Config, RawSettings};
 use ultra_verdict::{VerdictFault, write_verdict};
 
-/// The first of two acts of each processing element in its own cell, and the second of three of them, which were issued in one cycle.
+/// The first of two acts of each processing element in its own cell, and the second of three of
+/// them, which were issued in one cycle.
 const SECOND_ACTS_FIRST: &str = "0.0 store 0 1 = ack\n\
 1.0 store 1 2 = ack\n\
 2.0 store 2 3 = ack\n\
@@ -19,7 +20,8 @@ const SECOND_ACTS_FIRST: &str = "0.0 store 0 1 = ack\n\
 3.0 store 3 4 = ack\n\
 ";
 
-/// Each processing element stores its number and 1 in the cell of its number, waits for the answer, and does so again.
+/// Each processing element stores its number and 1 in the cell of its number, waits for the answer,
+/// and does so again.
 fn store_twice(alloc: Global) -> Result<Program, Fail> {
     let (number, word) = (register(1), register(2));
     program(vec![in alloc;
@@ -68,7 +70,8 @@ fn check_verdict(
     Ok(())
 }
 
-/// Asserts the line of the verdict on a list for the run in which each of two processing elements adds 1 to cell 0.
+/// Asserts the line of the verdict on a list for the run in which each of two processing elements
+/// adds 1 to cell 0.
 fn check_pair(rt: &(impl Abort + AllocGlobal), text: &str, expected: &str) -> Result<(), Fail> {
     let config = config(rt.alloc(), 1)?;
     let program = add_one(rt.alloc())?;
@@ -127,7 +130,8 @@ fn missing(rt: HostRuntime) -> Result<(), Fail> {
     check_pair(&rt, "1.0 faa 0 1 = 0\n", "missing: 0.0 faa 0 1 = 1\n")
 }
 
-/// Two entries before were issued in the greatest cycle; the first of them is not the one of the lowest processing element.
+/// Two entries before were issued in the greatest cycle; the first of them is not the one of the
+/// lowest processing element.
 #[test]
 fn too_late(rt: HostRuntime) -> Result<(), Fail> {
     let config = config(rt.alloc(), 2)?;
