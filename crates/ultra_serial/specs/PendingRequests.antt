@@ -1,6 +1,6 @@
 -- how the requests on their way to memory are kept: under each identity the leaves of its trees,
 -- the latest last
-use Rattle.std.specs.Prelude.{◌≡◌, ℕ, ◌%◌, List, [], ◌∷◌, ◌++◌, Bool, true, false, Option, Some, None, slice_get}
+use Rattle.std.specs.Prelude.{◌≡◌, ℕ, ◌%◌, List, [], ◌∷◌, Option, Some, None, slice_get}
 use Rattle.ultra_serial.specs.declared.pending_row.PendingRequest.{PendingRequest}
 use Rattle.ultra_serial.specs.declared.pending_row.PendingRow.{PendingRow}
 use Rattle.ultra_serial.specs.declared.pending_requests.PendingRequests.{PendingRequests}
@@ -28,8 +28,3 @@ chains_of w = chains_in w.rows.items
 -- they are these trees
 abbrev pub Keeps : PendingRequests → List Kept → Type 0
 Keeps w ks = (p a : ℕ) → chains_of w p a ≡ stacked p a ks
-
--- two lists of leaves in serial order
-abbrev pub leaves_in_order : Bool → List NamedRequest → List NamedRequest → List NamedRequest
-leaves_in_order true old new = old ++ new
-leaves_in_order false old new = new ++ old

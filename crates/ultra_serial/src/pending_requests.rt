@@ -1,10 +1,11 @@
 //! The requests that are on their way to memory.
 
-ghost use Rattle.std.specs.Prelude.{◌≡◌, ℕ, ◌+◌, ◌<◌, List, [], ◌∷◌, ◌++◌, IfOk, OnOk, option_map, vec_len};
+ghost use Rattle.std.specs.Prelude.{◌≡◌, ℕ, ◌+◌, ◌<◌, List, [], ◌∷◌, OnOk, option_map, vec_len};
 ghost use Rattle.ultra_msg.specs.declared.Event.TheVariants.{Combined, Issued};
 ghost use Rattle.ultra_serial_law.specs.Tree.{Tree, leaves as leaves_in, Kept, kept, tree_of, without, trees_after};
-ghost use Rattle.ultra_serial.specs.PendingRow.{items_in};
-ghost use Rattle.ultra_serial.specs.PendingRequests.{Keeps, chains_in, leaves_in_order};
+ghost use Rattle.ultra_serial.specs.ByPair.{is_pair};
+ghost use Rattle.ultra_serial.specs.PendingRow.{items_in, with_joined};
+ghost use Rattle.ultra_serial.specs.PendingRequests.{Keeps, chains_in};
 
 use crate::NamedRequest;
 use crate::pending_row::{PendingRequest, PendingRow};
@@ -62,13 +63,35 @@ impl PendingRequests {
     ) -> Result<(), AllocError>
         ensures { OnOk result ((ks : List Kept) (s x : ℕ) → Keeps self.old ks → Keeps self.new (trees_after ks (Combined s x cell old new old_first))) }
     {
-        match (self.take(old, cell), self.take(new, cell)) {
-            (Some(of_old), Some(of_new)) => {
-                let leaves = self.in_serial_order(of_old, of_new, old_first)?;
-                self.put(old, cell, leaves)
-            }
-            _ => Ok(()),
+        let Some(leaves) = self.take(new, cell) else {
+            // nothing is left of a combination with no new request
+            self.take(old, cell);
+            return Ok(());
+        };
+        if old == new {
+            // the old request is the latest of the two: it was taken, and the new one is left
+            self.join(old, cell, leaves, !old_first)
+        } else {
+            self.join(old, cell, leaves, old_first)
         }
+    }
+
+    /// Joins the leaves of a new request to those of the latest request of a processing element for a cell, if there is one, in serial order.
+    fn join(
+        &mut self,
+        pe: Pe,
+        cell: Cell,
+        of_new: Vec<NamedRequest>,
+        old_first: bool,
+    ) -> Result<(), AllocError>
+        ensures { OnOk result ((p a : ℕ) → chains_in self.new.rows.items p a ≡ with_joined (is_pair pe cell p a) old_first of_new.items (chains_in self.old.rows.items p a)) }
+    {
+        let row = (pe % ROWS) as usize;
+        if row >= self.rows.len() {
+            return Ok(());
+        }
+        let list = self.rows[row].join(pe, cell, of_new, old_first)?;
+        self.reuse(list)
     }
 
     /// Takes the leaves of the request of a processing element for a cell, if there is one.
@@ -136,36 +159,5 @@ impl PendingRequests {
     {
         self.rows.push(PendingRow::new(self.alloc))?;
         Ok(())
-    }
-
-    /// The leaves of two requests that have combined, in serial order.
-    fn in_serial_order(
-        &mut self,
-        of_old: Vec<NamedRequest>,
-        of_new: Vec<NamedRequest>,
-        old_first: bool,
-    ) -> Result<Vec<NamedRequest>, AllocError>
-        ensures leaves { IfOk result (λ v. v.items ≡ leaves_in_order old_first of_old.items of_new.items) }
-        ensures rows { self.new.rows ≡ self.old.rows }
-    {
-        if old_first {
-            self.joined(of_old, of_new)
-        } else {
-            self.joined(of_new, of_old)
-        }
-    }
-
-    /// Leaves, and then others.
-    fn joined(
-        &mut self,
-        mut first: Vec<NamedRequest>,
-        second: Vec<NamedRequest>,
-    ) -> Result<Vec<NamedRequest>, AllocError>
-        ensures leaves { IfOk result (λ v. v.items ≡ first.items ++ second.items) }
-        ensures rows { self.new.rows ≡ self.old.rows }
-    {
-        first.extend_from_slice(second.as_slice())?;
-        self.reuse(second)?;
-        Ok(first)
     }
 }

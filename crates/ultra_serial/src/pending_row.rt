@@ -3,10 +3,11 @@
 ghost use Rattle.std.specs.Prelude.{◌≡◌, ℕ, ◌+◌, ◌<◌, [], ◌∷◌, ◌++◌, length, take, drop, true, false, Some, IfNone, IfSome, OnOk, option_to_list, slice_get, vec_len};
 ghost use Rattle.ultra_serial.specs.declared.pending_row.PendingRequest.{PendingRequest as RequestOf};
 ghost use Rattle.ultra_serial.specs.ByPair.{is_pair};
-ghost use Rattle.ultra_serial.specs.PendingRow.{leaves_under, items_in};
+ghost use Rattle.ultra_serial.specs.PendingRow.{leaves_under, items_in, leaves_in_order, with_joined};
 
 use crate::NamedRequest;
 use std::alloc::{AllocError, Global};
+use std::mem;
 use ultra_msg::{Cell, Pe};
 
 /// A request on its way to memory.
@@ -18,6 +19,27 @@ pub(crate) struct PendingRequest {
     pub cell: Cell,
     /// The leaves of its tree in serial order.
     pub leaves: Vec<NamedRequest>,
+}
+
+impl PendingRequest {
+    /// Joins the leaves of a new request to these, in serial order. The result is the list that isn't needed any more.
+    fn join(
+        &mut self,
+        mut of_new: Vec<NamedRequest>,
+        old_first: bool,
+    ) -> Result<Vec<NamedRequest>, AllocError>
+        ensures leaves { OnOk result (self.new.leaves.items ≡ leaves_in_order old_first self.old.leaves.items of_new.items) }
+        ensures pe { self.new.pe ≡ self.old.pe }
+        ensures cell { self.new.cell ≡ self.old.cell }
+    {
+        if old_first {
+            self.leaves.extend_from_slice(of_new.as_slice())?;
+            Ok(of_new)
+        } else {
+            of_new.extend_from_slice(self.leaves.as_slice())?;
+            Ok(mem::replace(&mut self.leaves, of_new))
+        }
+    }
 }
 
 /// A few requests on their way to memory, the latest last.
@@ -53,6 +75,22 @@ impl PendingRow {
         let index = latest_of(self.requests.as_slice(), pe, cell)?;
         let PendingRequest { leaves, .. } = removed(&mut self.requests, index);
         Some(leaves)
+    }
+
+    /// Joins the leaves of a new request to those of the latest request of a processing element for a cell, if there is one, in serial order. The result is the list that isn't needed any more.
+    pub fn join(
+        &mut self,
+        pe: Pe,
+        cell: Cell,
+        of_new: Vec<NamedRequest>,
+        old_first: bool,
+    ) -> Result<Vec<NamedRequest>, AllocError>
+        ensures { OnOk result ((p a : ℕ) → leaves_under p a self.new.requests.items ≡ with_joined (is_pair pe cell p a) old_first of_new.items (leaves_under p a self.old.requests.items)) }
+    {
+        match latest_of(self.requests.as_slice(), pe, cell) {
+            Some(index) => self.requests[index].join(of_new, old_first),
+            None => Ok(of_new),
+        }
     }
 }
 
