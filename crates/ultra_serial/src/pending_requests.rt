@@ -76,7 +76,8 @@ impl PendingRequests {
         }
     }
 
-    /// Joins the leaves of a new request to those of the latest request of a processing element for a cell, if there is one, in serial order.
+    /// Joins the leaves of a new request to those of the latest request of a processing element for
+    /// a cell, if there is one, in serial order.
     fn join(
         &mut self,
         pe: Pe,

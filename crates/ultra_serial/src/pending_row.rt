@@ -22,7 +22,8 @@ pub(crate) struct PendingRequest {
 }
 
 impl PendingRequest {
-    /// Joins the leaves of a new request to these, in serial order. The result is the list that isn't needed any more.
+    /// Joins the leaves of a new request to these, in serial order. The result is the list that
+    /// isn't needed any more.
     fn join(
         &mut self,
         mut of_new: Vec<NamedRequest>,
@@ -77,7 +78,8 @@ impl PendingRow {
         Some(leaves)
     }
 
-    /// Joins the leaves of a new request to those of the latest request of a processing element for a cell, if there is one, in serial order. The result is the list that isn't needed any more.
+    /// Joins the leaves of a new request to those of the latest request of a processing element for
+    /// a cell, if there is one, in serial order. The result is the list that isn't needed any more.
     pub fn join(
         &mut self,
         pe: Pe,
