@@ -87,7 +87,7 @@ fn two_level_tree(rt: HostRuntime) -> Result<(), Fail> {
         2,
     );
     check_text(&rt, &tree, b"[s1x0 [s0x0 2.0 < 0.0] < [s0x2 3.0 < 1.0]]");
-    check_beginning(&rt, &tree, 16, b"[s1x0 [s0x0 2.0 < 0.");
+    check_beginning(&rt, &tree, 3, b"[s1x0 [s0x0 2.0 < ");
     drop(tree);
     assert_eq!(&rt; heap.used(), of_none);
     Ok(())
