@@ -6,8 +6,6 @@ mod cases;
 #[cfg(test)]
 mod listings;
 #[cfg(test)]
-mod memory_sink;
-#[cfg(test)]
 mod runs;
 #[cfg(test)]
 mod texts;

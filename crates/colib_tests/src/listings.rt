@@ -1,17 +1,17 @@
 //! The listings of the coordination programs at the ends of the ranges of their parameters.
 
 use crate::cases::{Case, OUT_OF_RANGE, check_refused};
-use crate::memory_sink::MemorySink;
 use std::process::Abort;
 use std::test::Fail;
+use test_sinks::{MemorySink, SinkLimits};
 use ultra_asm::listing;
 
 /// Asserts that a program has this listing.
 fn check_listing<R: AllocGlobal + Abort>(rt: &R, case: Case, wanted: &str) -> Result<(), Fail> {
     let program = case.program(rt.alloc())?;
-    let mut sink = MemorySink::in_threes(rt);
+    let mut sink = MemorySink::with_limits(rt.alloc(), SinkLimits::taking_at_most(3))?;
     listing(&program, &mut sink)?;
-    assert_eq!(rt; sink.text(), wanted);
+    assert_eq!(rt; sink.text()?, wanted);
     Ok(())
 }
 

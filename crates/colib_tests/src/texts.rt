@@ -1,17 +1,17 @@
 //! Texts of programs, with their listings and their faults.
 
-use crate::memory_sink::MemorySink;
 use std::alloc::{AllocError, Global};
 use std::process::Abort;
 use std::test::Fail;
+use test_sinks::{MemorySink, SinkLimits};
 use ultra_asm::{AsmFault, AsmFaultKind, assemble, listing};
 use ultra_msg::SinkFault;
 
 /// Asserts that the text is assembled to a program with this listing.
 fn lists_as<R: AllocGlobal + Abort>(rt: &R, text: &str, wanted: &str) -> Result<(), Fail> {
-    let mut sink = MemorySink::in_threes(rt);
+    let mut sink = MemorySink::with_limits(rt.alloc(), SinkLimits::taking_at_most(3))?;
     listing(&assemble(rt.alloc(), text)?, &mut sink)?;
-    assert_eq!(rt; sink.text(), wanted, "of {text}");
+    assert_eq!(rt; sink.text()?, wanted, "of {text}");
     Ok(())
 }
 
@@ -149,10 +149,10 @@ fn a_program_has_at_most_4096_instructions(rt: HostRuntime) -> Result<(), Fail> 
 #[test]
 fn a_fault_of_the_sink_is_reported(rt: HostRuntime) -> Result<(), Fail> {
     let program = assemble(rt.alloc(), "x: jmp x")?;
-    let mut sink = MemorySink::in_threes(&rt);
-    sink.sound_writes = 3;
+    let limits = SinkLimits::taking_at_most(3).failing_after(3);
+    let mut sink = MemorySink::with_limits(rt.alloc(), limits)?;
     assert_eq!(rt; listing(&program, &mut sink), Err(SinkFault));
-    assert_eq!(rt; sink.text(), "L0:\njmp L");
+    assert_eq!(rt; sink.text()?, "L0:\njmp L");
     assert_eq!(rt; sink.failures, 1);
     Ok(())
 }

@@ -1,10 +1,10 @@
 //! The ticket counter: its listing, and a run.
 
 use crate::cases::check_refused;
-use crate::memory_sink::MemorySink;
 use crate::runs::{check_cells, config, is_schedule, schedule};
 use std::process::Abort;
 use std::test::Fail;
+use test_sinks::{MemorySink, SinkLimits};
 use ultra_asm::listing;
 use ultra_colib::tickets_program;
 use ultra_msg::{Pe, Word};
@@ -16,9 +16,9 @@ fn ticket_counters_are_listed(rt: HostRuntime) -> Result<(), Fail> {
         let wanted = format!(in rt.alloc();
             "li r2 1\nli r5 {rounds}\nL2:\nfaa r1 r0 r2\nfence\nsub r5 r5 r2\njnz r5 L2\nhalt\n"
         )?;
-        let mut sink = MemorySink::in_threes(&rt);
+        let mut sink = MemorySink::with_limits(rt.alloc(), SinkLimits::taking_at_most(3))?;
         listing(&tickets_program(rt.alloc(), rounds)?, &mut sink)?;
-        assert_eq!(rt; sink.text(), wanted.as_str());
+        assert_eq!(rt; sink.text()?, wanted.as_str());
     }
     Ok(())
 }

@@ -2,13 +2,13 @@
 
 use crate::blocks::{element, event_is, lane, memory_module, replies, tree_is_answered};
 use crate::meeting::MeetingOfThree;
-use crate::memory_sink::MemorySink;
 use std::alloc::Global;
 use std::process::Abort;
 use std::sync::Wait;
 use std::sync::atomic::Ordering;
 use std::test::Fail;
 use std::thread::Threads;
+use test_sinks::MemorySink;
 use test_support::{
     COMBINED_PAIR, Counter, Holdup, Meeting, add_number, add_one, config, register,
 };
@@ -138,9 +138,9 @@ fn three_meet_in_a_run(rt: HostRuntime) -> Result<(), Fail> {
     let config = config(rt.alloc(), 1)?;
     let program = add_one(rt.alloc())?;
     let meeting = MeetingOfThree::new();
-    let mut out = MemorySink::new(&rt);
+    let mut out = MemorySink::new(rt.alloc())?;
     run(&rt, rt.alloc(), &config, &program, 3, &meeting, &mut out)?;
-    assert_eq!(rt; out.text(), COMBINED_PAIR);
+    assert_eq!(rt; out.text()?, COMBINED_PAIR);
     assert_eq!(rt; meeting.halves_met(), Some(8 * 6));
     Ok(())
 }

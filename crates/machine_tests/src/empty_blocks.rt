@@ -1,10 +1,10 @@
 //! The largest machine in two blocks that have 62 empty ones between them.
 
 use crate::crews::additions;
-use crate::memory_sink::MemorySink;
 use std::alloc::Global;
 use std::process::Abort;
 use std::test::Fail;
+use test_sinks::MemorySink;
 use ultra_machine::Blocks;
 use ultra_trace::write_cycle;
 
@@ -19,11 +19,7 @@ fn first_and_last(alloc: Global) -> Result<Vec<u8>, Fail> {
 }
 
 /// Makes twenty cycles, and writes their lines. Every processing element has its reply by then.
-fn write_twenty<R: Abort>(
-    rt: &R,
-    mut blocks: Blocks,
-    out: &mut MemorySink<'_, R>,
-) -> Result<(), Fail> {
+fn write_twenty<R: Abort>(rt: &R, mut blocks: Blocks, out: &mut MemorySink) -> Result<(), Fail> {
     for _ in 0..20_u32 {
         assert!(rt; blocks.done() < 1000);
         blocks.cycle();
@@ -38,9 +34,9 @@ fn write_twenty<R: Abort>(
 /// The lines of twenty cycles of the largest machine in this partition.
 fn lines_of<R: Abort + AllocGlobal>(rt: &R, partition: &[u8]) -> Result<String, Fail> {
     let blocks = additions(rt.alloc(), 6, partition)?;
-    let mut out = MemorySink::new(rt);
+    let mut out = MemorySink::new(rt.alloc())?;
     write_twenty(rt, blocks, &mut out)?;
-    let lines = out.text();
+    let lines = out.text()?;
     Ok(format!(in rt.alloc(); "{lines}")?)
 }
 

@@ -18,6 +18,4 @@ mod machines;
 #[cfg(test)]
 mod meeting;
 #[cfg(test)]
-mod memory_sink;
-#[cfg(test)]
 mod partitions;

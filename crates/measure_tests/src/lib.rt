@@ -4,6 +4,4 @@
 #[cfg(test)]
 mod measures;
 #[cfg(test)]
-mod memory_sink;
-#[cfg(test)]
 mod requests;

@@ -1,9 +1,9 @@
 //! Measures of runs. The expected texts are those of the reference program.
 
-use crate::memory_sink::MemorySink;
 use std::alloc::Global;
 use std::process::Abort;
 use std::test::Fail;
+use test_sinks::{MemorySink, SinkLimits};
 use test_support::{add_one, config, defaults, program, register};
 use ultra_isa::{Instr, Program};
 use ultra_measure::{Layout, measure};
@@ -71,9 +71,9 @@ fn add_twice(alloc: Global) -> Result<Program, Fail> {
 fn one_window_as_lines(rt: HostRuntime) -> Result<(), Fail> {
     let config = config(rt.alloc(), 1)?;
     let program = add_one(rt.alloc())?;
-    let mut out = MemorySink::failing_after(&rt, usize::MAX);
+    let mut out = MemorySink::new(rt.alloc())?;
     measure(rt.alloc(), &config, &program, Layout::Lines, &mut out)?;
-    assert_eq!(&rt; out.text(), COMBINED_PAIR);
+    assert_eq!(&rt; out.text()?, COMBINED_PAIR);
     Ok(())
 }
 
@@ -86,7 +86,7 @@ fn windows_as_a_table(rt: HostRuntime) -> Result<(), Fail> {
     };
     let config = Config::new(rt.alloc(), &settings)?;
     let program = add_twice(rt.alloc())?;
-    let mut out = MemorySink::failing_after(&rt, usize::MAX);
+    let mut out = MemorySink::new(rt.alloc())?;
     measure(
         rt.alloc(),
         &config,
@@ -94,7 +94,7 @@ fn windows_as_a_table(rt: HostRuntime) -> Result<(), Fail> {
         Layout::Table { every: 7 },
         &mut out,
     )?;
-    assert_eq!(&rt; out.text(), SEVEN_CYCLES_EACH);
+    assert_eq!(&rt; out.text()?, SEVEN_CYCLES_EACH);
     Ok(())
 }
 
@@ -102,7 +102,8 @@ fn windows_as_a_table(rt: HostRuntime) -> Result<(), Fail> {
 fn failing_sink(rt: HostRuntime) -> Result<(), Fail> {
     let config = config(rt.alloc(), 1)?;
     let program = add_one(rt.alloc())?;
-    let mut out = MemorySink::failing_after(&rt, 0);
+    let limits = SinkLimits::none().failing_after(0);
+    let mut out = MemorySink::with_limits(rt.alloc(), limits)?;
     let fault = measure(rt.alloc(), &config, &program, Layout::Lines, &mut out);
     if fault == Err(RunFault::NoMemory) {
         return Err("no memory".into());

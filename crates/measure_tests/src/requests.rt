@@ -1,9 +1,9 @@
 //! Events and requests of runs. The expected texts are those of the reference program.
 
-use crate::memory_sink::MemorySink;
 use std::alloc::Global;
 use std::process::Abort;
 use std::test::Fail;
+use test_sinks::{MemorySink, SinkLimits};
 use test_support::{config, defaults, program, register};
 use ultra_isa::{Instr, Program};
 use ultra_model::{Config, RawSettings};
@@ -84,12 +84,12 @@ fn add_beyond(alloc: Global) -> Result<Program, Fail> {
 fn all_operations(rt: HostRuntime) -> Result<(), Fail> {
     let config = config(rt.alloc(), 1)?;
     let program = mixed(rt.alloc())?;
-    let mut events = MemorySink::failing_after(&rt, usize::MAX);
+    let mut events = MemorySink::new(rt.alloc())?;
     write_events(rt.alloc(), &config, &program, 7, 19, &mut events)?;
-    assert_eq!(&rt; events.text(), MIXED_EVENTS);
-    let mut requests = MemorySink::failing_after(&rt, usize::MAX);
+    assert_eq!(&rt; events.text()?, MIXED_EVENTS);
+    let mut requests = MemorySink::new(rt.alloc())?;
     write_requests(rt.alloc(), &config, &program, &mut requests)?;
-    assert_eq!(&rt; requests.text(), MIXED_REQUESTS);
+    assert_eq!(&rt; requests.text()?, MIXED_REQUESTS);
     Ok(())
 }
 
@@ -102,15 +102,15 @@ fn fault_and_limit(rt: HostRuntime) -> Result<(), Fail> {
     };
     let config = Config::new(rt.alloc(), &settings)?;
     let program = add_beyond(rt.alloc())?;
-    let mut events = MemorySink::failing_after(&rt, usize::MAX);
+    let mut events = MemorySink::new(rt.alloc())?;
     write_events(rt.alloc(), &config, &program, 3, 8, &mut events)?;
-    assert_eq!(&rt; events.text(), FAULT_EVENTS);
-    let mut none = MemorySink::failing_after(&rt, usize::MAX);
+    assert_eq!(&rt; events.text()?, FAULT_EVENTS);
+    let mut none = MemorySink::new(rt.alloc())?;
     write_events(rt.alloc(), &config, &program, 9, 8, &mut none)?;
-    assert_eq!(&rt; none.text(), "");
-    let mut requests = MemorySink::failing_after(&rt, usize::MAX);
+    assert_eq!(&rt; none.text()?, "");
+    let mut requests = MemorySink::new(rt.alloc())?;
     write_requests(rt.alloc(), &config, &program, &mut requests)?;
-    assert_eq!(&rt; requests.text(), REQUESTS_AT_LIMIT);
+    assert_eq!(&rt; requests.text()?, REQUESTS_AT_LIMIT);
     Ok(())
 }
 
@@ -118,7 +118,8 @@ fn fault_and_limit(rt: HostRuntime) -> Result<(), Fail> {
 fn failing_sink_of_requests(rt: HostRuntime) -> Result<(), Fail> {
     let config = config(rt.alloc(), 1)?;
     let program = mixed(rt.alloc())?;
-    let mut out = MemorySink::failing_after(&rt, 0);
+    let limits = SinkLimits::none().failing_after(0);
+    let mut out = MemorySink::with_limits(rt.alloc(), limits)?;
     let fault = write_requests(rt.alloc(), &config, &program, &mut out);
     if fault == Err(RunFault::NoMemory) {
         return Err("no memory".into());

@@ -7,8 +7,6 @@ mod beside;
 #[cfg(test)]
 mod making;
 #[cfg(test)]
-mod memory_sink;
-#[cfg(test)]
 mod random;
 #[cfg(test)]
 mod rows;

@@ -3,10 +3,10 @@
 
 use crate::beside::is_schedule;
 use crate::making::{program, register, settings};
-use crate::memory_sink::MemorySink;
 use std::alloc::Global;
 use std::process::Abort;
 use std::test::Fail;
+use test_sinks::{MemorySink, SinkLimits};
 use ultra_isa::{Instr, Program};
 use ultra_model::{Config, RawSettings};
 use ultra_msg::Pe;
@@ -159,9 +159,9 @@ fn run_along(
     expected: &str,
 ) -> Result<(), Fail> {
     assert!(rt; is_schedule(schedule, config.net().size()));
-    let mut out = MemorySink::failing_after(rt, usize::MAX);
+    let mut out = MemorySink::new(rt.alloc())?;
     write_para(rt.alloc(), config, program, schedule, false, &mut out)?;
-    assert_eq!(rt; out.text(), expected);
+    assert_eq!(rt; out.text()?, expected);
     Ok(())
 }
 
@@ -178,16 +178,16 @@ fn along_a_schedule(rt: HostRuntime) -> Result<(), Fail> {
 #[test]
 fn drawn_until_all_have_stopped(rt: HostRuntime) -> Result<(), Fail> {
     let (alloc, config, program) = (rt.alloc(), two_elements(rt.alloc())?, add_one(rt.alloc())?);
-    let mut out = MemorySink::failing_after(&rt, usize::MAX);
+    let mut out = MemorySink::new(rt.alloc())?;
     write_seeded(alloc, &config, &program, 0, None, false, &mut out)?;
-    assert_eq!(&rt; out.text(), ADD_FROM_0);
-    let mut out = MemorySink::failing_after(&rt, usize::MAX);
+    assert_eq!(&rt; out.text()?, ADD_FROM_0);
+    let mut out = MemorySink::new(rt.alloc())?;
     write_seeded(alloc, &config, &program, 1, Some(10), false, &mut out)?;
-    assert_eq!(&rt; out.text(), ADD_FROM_1);
-    let mut out = MemorySink::failing_after(&rt, usize::MAX);
+    assert_eq!(&rt; out.text()?, ADD_FROM_1);
+    let mut out = MemorySink::new(rt.alloc())?;
     write_seeded(alloc, &config, &program, 1, Some(0), true, &mut out)?;
     assert_eq!(&rt;
-        out.text(),
+        out.text()?,
         "end steps 0 running\npe 0 running 0\npe 1 running 0\n"
     );
     Ok(())
@@ -200,19 +200,20 @@ fn drawn_until_the_steps_are_made(rt: HostRuntime) -> Result<(), Fail> {
         four_elements(rt.alloc())?,
         swap_and_fault(rt.alloc())?,
     );
-    let mut out = MemorySink::failing_after(&rt, usize::MAX);
+    let mut out = MemorySink::new(rt.alloc())?;
     write_seeded(alloc, &config, &program, 0, None, false, &mut out)?;
-    assert_eq!(&rt; out.text(), SWAP_FROM_0);
-    let mut out = MemorySink::failing_after(&rt, usize::MAX);
+    assert_eq!(&rt; out.text()?, SWAP_FROM_0);
+    let mut out = MemorySink::new(rt.alloc())?;
     write_seeded(alloc, &config, &program, u64::MAX, None, true, &mut out)?;
-    assert_eq!(&rt; out.text(), END_FROM_LARGEST);
+    assert_eq!(&rt; out.text()?, END_FROM_LARGEST);
     Ok(())
 }
 
 #[test]
 fn failing_sink(rt: HostRuntime) -> Result<(), Fail> {
     let (config, program) = (two_elements(rt.alloc())?, add_one(rt.alloc())?);
-    let mut out = MemorySink::failing_after(&rt, 0);
+    let limits = SinkLimits::none().failing_after(0);
+    let mut out = MemorySink::with_limits(rt.alloc(), limits)?;
     let fault = write_seeded(rt.alloc(), &config, &program, 0, None, false, &mut out);
     if fault == Err(RunFault::NoMemory) {
         return Err("no memory".into());

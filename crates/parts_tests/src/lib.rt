@@ -3,8 +3,6 @@
 #![tactic(auto)]
 
 #[cfg(test)]
-mod memory_sink;
-#[cfg(test)]
 mod modules;
 #[cfg(test)]
 mod orders;

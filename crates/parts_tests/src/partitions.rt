@@ -1,10 +1,10 @@
 //! The lines of a machine's cycles are the same in every partition, by every number of workers.
 
-use crate::memory_sink::MemorySink;
 use std::process::Abort;
 use std::sync::Wait;
 use std::test::Fail;
 use std::thread::Threads;
+use test_sinks::MemorySink;
 use test_support::{Counter, TWO_LEVEL_TREE, add_number, config};
 use ultra_crew::{Blocks, Crew};
 use ultra_trace::write_cycle;
@@ -14,7 +14,7 @@ fn make_and_write_ten<R: Threads + Wait + Sync + Abort + AllocGlobal>(
     rt: &R,
     mut blocks: Blocks,
     workers: usize,
-    out: &mut MemorySink<'_, R>,
+    out: &mut MemorySink,
 ) -> Result<(), Fail> {
     assert!(rt; 1 <= workers);
     assert!(rt; workers <= 64);
@@ -39,9 +39,9 @@ fn check_lines<R: Threads + Wait + Sync + Abort + AllocGlobal>(
     let config = config(rt.alloc(), 2)?;
     let program = add_number(rt.alloc())?;
     let blocks = Blocks::new(rt.alloc(), &config, &program, partition)?;
-    let mut out = MemorySink::new(rt);
+    let mut out = MemorySink::new(rt.alloc())?;
     make_and_write_ten(rt, blocks, workers, &mut out)?;
-    let cycles = out.text();
+    let cycles = out.text()?;
     let trace = format!(in rt.alloc(); "ultra trace 2\n{cycles}end quiet\n")?;
     assert!(rt; TWO_LEVEL_TREE.starts_with(trace.as_str()), "{trace}");
     Ok(())

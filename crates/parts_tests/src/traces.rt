@@ -2,12 +2,12 @@
 
 ghost use Rattle.std.specs.Prelude.{◌<◌};
 
-use crate::memory_sink::MemorySink;
 use std::process::Abort;
 use std::sync::Wait;
 use std::sync::atomic::Ordering;
 use std::test::Fail;
 use std::thread::Threads;
+use test_sinks::{MemorySink, SinkLimits};
 use test_support::{
     COMBINED_PAIR, Counter, Holdup, Meeting, TWO_LEVEL_TREE, add_number, add_one, config,
 };
@@ -23,7 +23,7 @@ fn run_by<R: Threads + Wait + Sync + Abort + AllocGlobal, G: Gate + Sync>(
     program: &Program,
     workers: usize,
     gate: &G,
-    out: &mut MemorySink<'_, R>,
+    out: &mut MemorySink,
 ) -> Result<(), RunFault> {
     assert!(rt; 1 <= workers);
     assert!(rt; workers <= 64);
@@ -38,10 +38,10 @@ fn check_run<R: Threads + Wait + Sync + Abort + AllocGlobal, G: Gate + Sync>(
     workers: usize,
     gate: &G,
     wanted: &str,
-) -> Result<(), RunFault> {
-    let mut out = MemorySink::new(rt);
+) -> Result<(), Fail> {
+    let mut out = MemorySink::new(rt.alloc())?;
     run_by(rt, config, program, workers, gate, &mut out)?;
-    assert_eq!(rt; out.text(), wanted, "by {workers}");
+    assert_eq!(rt; out.text()?, wanted, "by {workers}");
     Ok(())
 }
 
@@ -63,7 +63,7 @@ fn check_runs<R: Threads + Wait + Sync + Abort + AllocGlobal>(
     program: &Program,
     crews: &[usize],
     wanted: &str,
-) -> Result<u64, RunFault> {
+) -> Result<u64, Fail> {
     let gate = Counter::new();
     for workers in crews {
         check_run(rt, config, program, *workers, &gate, wanted)?;
@@ -86,9 +86,9 @@ fn any_workers(rt: HostRuntime) -> Result<(), Fail> {
 fn any_workers_of_the_largest_machine(rt: HostRuntime) -> Result<(), Fail> {
     let config = config(rt.alloc(), 6)?;
     let program = add_one(rt.alloc())?;
-    let mut alone = MemorySink::new(&rt);
+    let mut alone = MemorySink::new(rt.alloc())?;
     run_alone(rt.alloc(), &config, &program, &mut alone)?;
-    let trace = alone.text();
+    let trace = alone.text()?;
     assert!(rt; trace.contains(" faa 64 = 0 now 64\n"), "{trace}");
     let _ = check_runs(&rt, &config, &program, &[1, 2, 63, 64], trace)?;
     Ok(())
@@ -108,10 +108,11 @@ fn gate_meets(rt: HostRuntime) -> Result<(), Fail> {
 }
 
 /// A failing sink took this many bytes of the trace, and after the fault nothing was offered.
-fn ends_in_a_fault<R: Abort>(rt: &R, out: &MemorySink<'_, R>, taken: usize) {
-    assert!(rt; COMBINED_PAIR.starts_with(out.text()), "after {taken}");
+fn ends_in_a_fault<R: Abort>(rt: &R, out: &MemorySink, taken: usize) -> Result<(), Fail> {
+    assert!(rt; COMBINED_PAIR.starts_with(out.text()?), "after {taken}");
     assert_eq!(rt; out.bytes.len(), taken);
     assert_eq!(rt; out.failures, 1);
+    Ok(())
 }
 
 /// A run by n workers writes into a sink that takes `most` bytes a write and fails after `count`
@@ -127,12 +128,10 @@ fn check_failing_sink<R: Threads + Wait + Sync + Abort + AllocGlobal>(
 ) -> Result<(), Fail>
     requires some_bytes { 0 < most }
 {
-    let mut out = MemorySink::failing_after(rt, most, count);
+    let limits = SinkLimits::taking_at_most(most).failing_after(count);
+    let mut out = MemorySink::with_limits(rt.alloc(), limits)?;
     match run_by(rt, config, program, workers, &Counter::new(), &mut out) {
-        Err(RunFault::Write) => {
-            ends_in_a_fault(rt, &out, most.saturating_mul(count));
-            Ok(())
-        }
+        Err(RunFault::Write) => ends_in_a_fault(rt, &out, most.saturating_mul(count)),
         Err(fault) => Err(Fail::from(fault)),
         Ok(()) => Err(Fail::from("no write failed")),
     }
@@ -176,7 +175,7 @@ fn short_failing_sink(rt: HostRuntime) -> Result<(), Fail> {
 fn short_run<R: Threads + Wait + Sync + Abort + AllocGlobal>(
     rt: &R,
     workers: usize,
-    out: &mut MemorySink<'_, R>,
+    out: &mut MemorySink,
 ) -> Result<(), Fail> {
     let config = config(rt.alloc(), 1)?;
     let program = add_one(rt.alloc())?;
@@ -189,12 +188,11 @@ fn check_short_run<R: Threads + Wait + Sync + Abort + AllocGlobal>(
     rt: &R,
     workers: usize,
 ) -> Result<(), Fail> {
-    let mut out = MemorySink::with_room(rt, 4096)?;
+    let mut out = MemorySink::new(rt.alloc())?;
     let ended = short_run(rt, workers, &mut out);
-    let text = out.text();
-    assert!(rt; COMBINED_PAIR.starts_with(text), "{text}");
+    assert!(rt; COMBINED_PAIR.as_bytes().starts_with(out.bytes.as_slice()));
     ended?;
-    assert_eq!(rt; text, COMBINED_PAIR);
+    assert_eq!(rt; out.text()?, COMBINED_PAIR);
     Ok(())
 }
 

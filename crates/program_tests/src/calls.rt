@@ -2,9 +2,9 @@
 
 use crate::host::Host;
 use crate::memory_files::MemoryFiles;
-use crate::memory_sink::{Limits, MemorySink};
 use std::process::Abort;
 use std::test::Fail;
+use test_sinks::{MemorySink, SinkLimits};
 use ultra_commands::main_with;
 use ultra_io::{Account, Source};
 
@@ -20,8 +20,8 @@ pub(crate) struct Ended {
 impl Ended {
     /// What a call did that answered this status and wrote to these streams.
     fn new(status: u8, out: MemorySink, err: MemorySink) -> Result<Ended, Fail> {
-        let err = err.into_text()?;
-        let out = out.into_text()?;
+        let err = String::from_utf8(err.bytes)?;
+        let out = String::from_utf8(out.bytes)?;
         Ok(Ended { status, out, err })
     }
 
@@ -66,11 +66,11 @@ pub(crate) fn call_over<'w, R: Host, F: Source>(
     rt: &R,
     words: &'w [&'w str],
     source: &mut F,
-    out: Limits,
-    err: Limits,
+    out: SinkLimits,
+    err: SinkLimits,
 ) -> Result<Ended, Fail> {
-    let mut out = MemorySink::new(rt.alloc(), out)?;
-    let mut err = MemorySink::new(rt.alloc(), err)?;
+    let mut out = MemorySink::with_limits(rt.alloc(), out)?;
+    let mut err = MemorySink::with_limits(rt.alloc(), err)?;
     let status = status_of(rt, words, source, &mut out, &mut err);
     Ended::new(status, out, err)
 }
@@ -80,8 +80,8 @@ pub(crate) fn call_within<'t, R: Host>(
     rt: &R,
     words: &'t [&'t str],
     files: &'t [(&'t str, &'t [u8])],
-    out: Limits,
-    err: Limits,
+    out: SinkLimits,
+    err: SinkLimits,
 ) -> Result<Ended, Fail> {
     let mut files = MemoryFiles {
         files,
@@ -97,7 +97,7 @@ pub(crate) fn call<'t, R: Host>(
     words: &'t [&'t str],
     files: &'t [(&'t str, &'t [u8])],
 ) -> Result<Ended, Fail> {
-    call_into(rt, words, files, Limits::none())
+    call_into(rt, words, files, SinkLimits::none())
 }
 
 /// The same where standard output has these limits.
@@ -105,9 +105,9 @@ pub(crate) fn call_into<'t, R: Host>(
     rt: &R,
     words: &'t [&'t str],
     files: &'t [(&'t str, &'t [u8])],
-    out: Limits,
+    out: SinkLimits,
 ) -> Result<Ended, Fail> {
-    unless_refused(call_within(rt, words, files, out, Limits::none())?)
+    unless_refused(call_within(rt, words, files, out, SinkLimits::none())?)
 }
 
 /// Standard error doesn't say that memory or a thread was refused; else that is the error here.

@@ -3,8 +3,8 @@
 use crate::calls::{call_within, check_command, check_usage_fault, unless_refused};
 use crate::examples::ADDS_ONE;
 use crate::host::Host;
-use crate::memory_sink::Limits;
 use std::test::Fail;
+use test_sinks::SinkLimits;
 
 pub(crate) const COMBINED_PAIR: &str = "cycle 5 module 0 cell 0 [s0x0 1.0 < 0.0]\n";
 
@@ -206,7 +206,7 @@ static THREE_STAGES: [(&str, &[u8]); 2] = [("c.toml", b"stages = 3"), ("p.s", AD
 #[test]
 fn an_explanation_is_refused_or_whole(rt: HostRuntime) -> Result<(), Fail> {
     let words = with_heap("4096");
-    let no_limits = Limits::none();
+    let no_limits = SinkLimits::none();
     let ended = call_within(&rt, &words, &THREE_STAGES, no_limits, no_limits)?;
     ended.check_refused_or_whole(&rt, THREE_LEVELS);
     unless_refused(ended)?;

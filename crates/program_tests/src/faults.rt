@@ -6,10 +6,10 @@ use crate::calls::{Ended, call_over, call_within};
 use crate::examples::ADDS_ONE;
 use crate::host::Host;
 use crate::memory_files::MemoryFiles;
-use crate::memory_sink::Limits;
 use std::alloc::Global;
 use std::process::Abort;
 use std::test::Fail;
+use test_sinks::SinkLimits;
 use ultra_io::{Account, Source, SourceFault};
 
 /// Files in memory, where one read fails: the one after `sound_reads` reads.
@@ -84,7 +84,7 @@ const SWEEP: [&str; 7] = [
 
 /// Calls the program over the files, with streams of these limits. Where memory or a thread was
 /// refused, that is the error here.
-fn call<R: Host>(rt: &R, words: &[&str], out: Limits, err: Limits) -> Result<Ended, Fail> {
+fn call<R: Host>(rt: &R, words: &[&str], out: SinkLimits, err: SinkLimits) -> Result<Ended, Fail> {
     let ended = call_within(rt, words, &FILES, out, err)?;
     if ended.status == 4 {
         return Err("no memory".into());
@@ -94,7 +94,7 @@ fn call<R: Host>(rt: &R, words: &[&str], out: Limits, err: Limits) -> Result<End
 
 /// What the words write to standard output.
 fn text_of<R: Host>(rt: &R, words: &[&str]) -> Result<String, Fail> {
-    let Ended { status, out, err } = call(rt, words, Limits::none(), Limits::none())?;
+    let Ended { status, out, err } = call(rt, words, SinkLimits::none(), SinkLimits::none())?;
     assert_eq!(rt; status, 0, "{words:?}");
     assert!(rt; err.is_empty());
     Ok(out)
@@ -102,7 +102,7 @@ fn text_of<R: Host>(rt: &R, words: &[&str]) -> Result<String, Fail> {
 
 /// What the words write to standard error, where they aren't done and have this status.
 fn fault_of<R: Host>(rt: &R, words: &[&str], wanted: u8) -> Result<String, Fail> {
-    let Ended { status, out, err } = call(rt, words, Limits::none(), Limits::none())?;
+    let Ended { status, out, err } = call(rt, words, SinkLimits::none(), SinkLimits::none())?;
     assert_eq!(rt; status, wanted, "{words:?}");
     assert!(rt; out.is_empty());
     Ok(err)
@@ -111,7 +111,12 @@ fn fault_of<R: Host>(rt: &R, words: &[&str], wanted: u8) -> Result<String, Fail>
 /// Asserts that the write after the first `count` writes of a text may be the one that fails: the
 /// bytes before it were written, and nothing is written after it.
 fn check_write<R: Host>(rt: &R, words: &[&str], text: &str, count: usize) -> Result<(), Fail> {
-    let ended = call(rt, words, Limits::failing_once_after(count), Limits::none())?;
+    let ended = call(
+        rt,
+        words,
+        SinkLimits::failing_once_after(count),
+        SinkLimits::none(),
+    )?;
     ended.check_cut(rt, text);
     assert_eq!(rt; ended.out.len(), count, "{words:?}");
     Ok(())
@@ -119,8 +124,8 @@ fn check_write<R: Host>(rt: &R, words: &[&str], text: &str, count: usize) -> Res
 
 /// Asserts that words write this whole text, a byte at a time, where no write fails.
 fn check_whole<R: Host>(rt: &R, words: &[&str], text: &str) -> Result<(), Fail> {
-    let out = Limits::failing_once_after(text.len());
-    call(rt, words, out, Limits::none())?.check(rt, (0, text, ""));
+    let out = SinkLimits::failing_once_after(text.len());
+    call(rt, words, out, SinkLimits::none())?.check(rt, (0, text, ""));
     Ok(())
 }
 
@@ -156,7 +161,12 @@ fn check_fault<R: Host>(
     wanted: u8,
     (text, count): (&str, usize),
 ) -> Result<(), Fail> {
-    let ended = call(rt, words, Limits::none(), Limits::failing_once_after(count))?;
+    let ended = call(
+        rt,
+        words,
+        SinkLimits::none(),
+        SinkLimits::failing_once_after(count),
+    )?;
     let (cut, _) = text.split_at_checked(count).expect(rt, "no text");
     ended.check(rt, (wanted, "", cut));
     Ok(())
@@ -184,7 +194,7 @@ fn each_write_to_standard_error_fails_in_turn(rt: HostRuntime) -> Result<(), Fai
 /// Asserts that the status is that of standard output, where both streams fail at their first
 /// write.
 fn check_both_fail<R: Host>(rt: &R, words: &[&str]) -> Result<(), Fail> {
-    let failing = Limits::failing_once_after(0);
+    let failing = SinkLimits::failing_once_after(0);
     call(rt, words, failing, failing)?.check(rt, (5, "", ""));
     Ok(())
 }
@@ -201,8 +211,8 @@ static SHOWN_SWEEP: [&str; 6] = [
 
 /// Asserts that a sweep is done whose lines of progress fail after `count` writes.
 fn check_progress_fails<R: Host>(rt: &R, report: &str, count: usize) -> Result<(), Fail> {
-    let err = Limits::failing_once_after(count);
-    let ended = call(rt, &SHOWN_SWEEP, Limits::none(), err)?;
+    let err = SinkLimits::failing_once_after(count);
+    let ended = call(rt, &SHOWN_SWEEP, SinkLimits::none(), err)?;
     assert_eq!(rt; ended.status, 0, "{count}");
     assert_eq!(rt; ended.out.as_str(), report);
     Ok(())
@@ -227,7 +237,7 @@ fn a_status_is_that_of_standard_output(rt: HostRuntime) -> Result<(), Fail> {
 fn a_command_is_refused_or_whole(rt: HostRuntime) -> Result<(), Fail> {
     for (words, _) in &COMMANDS {
         let text = text_of(&rt, words)?;
-        let ended = call_within(&rt, words, &FILES, Limits::none(), Limits::none())?;
+        let ended = call_within(&rt, words, &FILES, SinkLimits::none(), SinkLimits::none())?;
         ended.check_refused_or_whole(&rt, text.as_str());
     }
     Ok(())
@@ -249,7 +259,13 @@ fn call_faulty<'w, R: Host>(
         sound_reads,
         wants_memory,
     };
-    let ended = call_over(rt, words, &mut source, Limits::none(), Limits::none())?;
+    let ended = call_over(
+        rt,
+        words,
+        &mut source,
+        SinkLimits::none(),
+        SinkLimits::none(),
+    )?;
     assert!(rt; ended.out.is_empty(), "{words:?}");
     Ok(ended)
 }

@@ -21,8 +21,6 @@ mod measures;
 #[cfg(test)]
 mod memory_files;
 #[cfg(test)]
-mod memory_sink;
-#[cfg(test)]
 mod orders;
 #[cfg(test)]
 mod parts;

@@ -2,8 +2,8 @@
 
 use crate::calls::{call, call_into};
 use crate::host::Host;
-use crate::memory_sink::Limits;
 use std::test::Fail;
+use test_sinks::SinkLimits;
 
 /// What `ultra lib barrier 1` writes.
 const BARRIER: &str = "\
@@ -146,7 +146,12 @@ fn wrong_words_are_usage_faults(rt: HostRuntime) -> Result<(), Fail> {
 
 #[test]
 fn a_prefix_is_written_where_standard_output_fails(rt: HostRuntime) -> Result<(), Fail> {
-    let ended = call_into(&rt, &LIB_BARRIER, &[], Limits::failing_after(4, 2))?;
+    let ended = call_into(
+        &rt,
+        &LIB_BARRIER,
+        &[],
+        SinkLimits::taking_at_most(4).failing_after(2),
+    )?;
     ended.check_cut(&rt, BARRIER);
     Ok(())
 }

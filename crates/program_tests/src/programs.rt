@@ -3,10 +3,10 @@
 use crate::calls::{call, call_into, check_command, check_usage_fault};
 use crate::examples::{self, ADDS_NUMBER, ADDS_ONE, Example};
 use crate::host::Host;
-use crate::memory_sink::Limits;
 use std::alloc::{AllocError, Global};
 use std::str;
 use std::test::Fail;
+use test_sinks::SinkLimits;
 use test_support::TWO_LEVEL_TREE;
 
 static RUN: [&str; 4] = ["ultra", "run", "c.toml", "p.s"];
@@ -330,7 +330,7 @@ fn long_orders_are_written_in_pieces(rt: HostRuntime) -> Result<(), Fail> {
 fn a_prefix_of_a_long_order_is_written(rt: HostRuntime) -> Result<(), Fail> {
     let program = many_loads(rt.alloc(), 4000)?;
     let files = [("c.toml", MANY_CYCLES), ("p.s", program.as_bytes())];
-    let ended = call_into(&rt, &ORDER, &files, Limits::failing_after(usize::MAX, 1))?;
+    let ended = call_into(&rt, &ORDER, &files, SinkLimits::none().failing_after(1))?;
     assert!(rt; ended.out.len() >= 60000);
     let order = order_of_loads(rt.alloc(), 4000)?;
     ended.check_cut(&rt, order.as_str());
@@ -473,7 +473,12 @@ static BEGINNINGS: [(&[&str], &str); 6] = [
 #[test]
 fn a_prefix_is_written_to_a_short_failing_sink(rt: HostRuntime) -> Result<(), Fail> {
     for (words, beginning) in &BEGINNINGS {
-        let ended = call_into(&rt, words, &ONE_STAGE, Limits::failing_after(4, 2))?;
+        let ended = call_into(
+            &rt,
+            words,
+            &ONE_STAGE,
+            SinkLimits::taking_at_most(4).failing_after(2),
+        )?;
         ended.check(&rt, (5, beginning, "ultra: write failed\n"));
     }
     Ok(())

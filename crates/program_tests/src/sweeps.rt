@@ -3,10 +3,10 @@
 use crate::calls::{Ended, call_within, check_usage_fault};
 use crate::examples::ADDS_ONE;
 use crate::host::Host;
-use crate::memory_sink::Limits;
 use crate::traces::HALT;
 use std::alloc::{AllocError, Global};
 use std::test::Fail;
+use test_sinks::SinkLimits;
 use test_support::COMBINED_PAIR;
 
 /// A job that halts at once, and one in which two processing elements add 1 each to cell 0.
@@ -21,14 +21,14 @@ prog = \"add.s\"
 
 /// Does what the words ask for, with this file of jobs. Where memory or a thread was refused,
 /// nothing is written, and that is the error here.
-fn sweep<R: Host>(rt: &R, words: &[&str], jobs: &str, out: Limits) -> Result<Ended, Fail> {
+fn sweep<R: Host>(rt: &R, words: &[&str], jobs: &str, out: SinkLimits) -> Result<Ended, Fail> {
     let files: [(&str, &[u8]); 4] = [
         ("jobs.toml", jobs.as_bytes()),
         ("c.toml", b"stages = 1"),
         ("halt.s", b"halt\n"),
         ("add.s", ADDS_ONE),
     ];
-    let ended = call_within(rt, words, &files, out, Limits::none())?;
+    let ended = call_within(rt, words, &files, out, SinkLimits::none())?;
     if ended.status == 4 {
         assert!(rt; ended.out.is_empty());
         assert!(rt; ends_with_refusal(ended.err.as_str()));
@@ -68,7 +68,7 @@ fn check_sweep<R: Host>(
     jobs: &str,
     wanted: (u8, &str, &str),
 ) -> Result<(), Fail> {
-    sweep(rt, words, jobs, Limits::none())?.check(rt, wanted);
+    sweep(rt, words, jobs, SinkLimits::none())?.check(rt, wanted);
     Ok(())
 }
 
@@ -106,7 +106,7 @@ fn check_progress<R: Host>(rt: &R, workers: &str, report: &str) -> Result<(), Fa
         "--at-once",
         "2",
     ];
-    let ended = sweep(rt, &words, TWO_JOBS, Limits::none())?;
+    let ended = sweep(rt, &words, TWO_JOBS, SinkLimits::none())?;
     let last = "ultra: 2 of 2 jobs\n";
     let both = "ultra: 1 of 2 jobs\nultra: 2 of 2 jobs\n";
     let shown = if ended.err.as_str() == last {
@@ -251,7 +251,7 @@ fn wrong_words_of_a_sweep_are_usage_faults(rt: HostRuntime) -> Result<(), Fail> 
 fn a_prefix_of_a_report_is_written(rt: HostRuntime) -> Result<(), Fail> {
     let report = report_of_two(rt.alloc())?;
     for sound_writes in 0..8 {
-        let out = Limits::failing_after(30, sound_writes);
+        let out = SinkLimits::taking_at_most(30).failing_after(sound_writes);
         let ended = sweep(&rt, &words_of("2", "1"), TWO_JOBS, out)?;
         ended.check_cut(&rt, report.as_str());
     }

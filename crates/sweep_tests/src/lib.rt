@@ -15,6 +15,4 @@ mod jobs;
 #[cfg(test)]
 mod measures;
 #[cfg(test)]
-mod memory_sink;
-#[cfg(test)]
 mod sweeps;

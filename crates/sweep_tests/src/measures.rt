@@ -1,12 +1,12 @@
 //! Sweeps that give measures. The expected rows are those of another simulator.
 
 use crate::jobs::two_jobs;
-use crate::memory_sink::MemorySink;
 use crate::sweeps::sweep_by_two;
 use std::process::Abort;
 use std::sync::Wait;
 use std::test::Fail;
 use std::thread::Threads;
+use test_sinks::{MemorySink, SinkLimits};
 use ultra_args::{Invocation, Parsed, SweepOutput, parse};
 use ultra_measure::measure_names;
 use ultra_sweep::{Job, gather, write_job_table};
@@ -52,7 +52,7 @@ fn check_table<R: Threads + Wait + Sync + Abort + AllocGlobal>(
 ) -> Result<(), Fail> {
     let results = sweep_by_two(rt, jobs, at_once, &OutputGate::new(output))?;
     let gathered = gather(rt.alloc(), jobs.len() as u64, results)?;
-    let mut out = MemorySink::failing_after(rt, usize::MAX);
+    let mut out = MemorySink::with_limits(rt.alloc(), SinkLimits::taking_at_most(7))?;
     write_job_table(&gathered, measure_names(), &mut out)?;
     assert_eq!(rt;
         out.text()?,
@@ -106,7 +106,8 @@ fn table_into_a_failing_sink(rt: HostRuntime) -> Result<(), Fail> {
     let gathered = gather(rt.alloc(), 2, results)?;
     let wanted = format!(in rt.alloc(); "{NAMES}{WHOLE_RUNS}")?;
     for count in 0..20 {
-        let mut out = MemorySink::failing_after(&rt, count);
+        let limits = SinkLimits::taking_at_most(7).failing_after(count);
+        let mut out = MemorySink::with_limits(rt.alloc(), limits)?;
         assert!(rt;
             write_job_table(&gathered, measure_names(), &mut out).is_err(),
             "after {count}"

@@ -5,12 +5,12 @@ ghost use Rattle.std.specs.Prelude.{◌≡◌};
 use crate::boards::split;
 use crate::gates::{Counter, Meeting};
 use crate::jobs::{most_jobs, two_jobs};
-use crate::memory_sink::MemorySink;
 use std::process::Abort;
 use std::sync::Wait;
 use std::sync::atomic::Ordering;
 use std::test::Fail;
 use std::thread::{self, Threads};
+use test_sinks::{MemorySink, SinkLimits};
 use ultra_board::Board;
 use ultra_msg::write_all;
 use ultra_sweep::{Job, JobGate, JobResult, WorkFault, gather, report, work};
@@ -97,7 +97,7 @@ fn together(
 /// Asserts that the results of the two jobs make their report.
 fn check_report<R: Abort + AllocGlobal>(rt: &R, results: Vec<JobResult>) -> Result<(), Fail> {
     let gathered = gather(rt.alloc(), 2, results)?;
-    let mut out = MemorySink::failing_after(rt, usize::MAX);
+    let mut out = MemorySink::with_limits(rt.alloc(), SinkLimits::taking_at_most(7))?;
     report(&gathered, &mut out)?;
     assert_eq!(rt; out.text()?, REPORT);
     Ok(())
@@ -114,11 +114,8 @@ fn two_job_sweep(rt: HostRuntime) -> Result<(), Fail> {
 }
 
 /// The report of the runs of all jobs, in order, by the thread of the test and without a sweep.
-fn report_of_runs<'r, R: Abort + AllocGlobal>(
-    rt: &'r R,
-    jobs: &[Job],
-) -> Result<MemorySink<'r, R>, Fail> {
-    let mut out = MemorySink::failing_after(rt, usize::MAX);
+fn report_of_runs<R: AllocGlobal>(rt: &R, jobs: &[Job]) -> Result<MemorySink, Fail> {
+    let mut out = MemorySink::with_limits(rt.alloc(), SinkLimits::taking_at_most(7))?;
     for (number, job) in jobs.iter().enumerate() {
         let line = format!(in rt.alloc(); "job {number}\n")?;
         write_all(&mut out, line.as_bytes())?;
@@ -138,7 +135,7 @@ fn most_jobs_in_order(rt: HostRuntime) -> Result<(), Fail> {
     for at_once in [1, 2] {
         let results = sweep_by_two(&rt, jobs.as_slice(), at_once, &RunAlone)?;
         let gathered = gather(rt.alloc(), 256, results)?;
-        let mut out = MemorySink::failing_after(&rt, usize::MAX);
+        let mut out = MemorySink::with_limits(rt.alloc(), SinkLimits::taking_at_most(7))?;
         report(&gathered, &mut out)?;
         assert_eq!(rt; out.text()?, wanted.text()?);
     }
@@ -173,7 +170,8 @@ fn report_into_a_failing_sink(rt: HostRuntime) -> Result<(), Fail> {
     let jobs = two_jobs(rt.alloc())?;
     let gathered = gather(rt.alloc(), 2, sweep_alone(&rt, jobs.as_slice())?)?;
     for count in 0..20 {
-        let mut out = MemorySink::failing_after(&rt, count);
+        let limits = SinkLimits::taking_at_most(7).failing_after(count);
+        let mut out = MemorySink::with_limits(rt.alloc(), limits)?;
         assert!(rt; report(&gathered, &mut out).is_err(), "after {count}");
         assert!(rt; REPORT.starts_with(out.text()?), "after {count}");
     }

@@ -2,11 +2,11 @@
 
 use crate::events::{explainer, settings};
 use crate::heaps::bytes_after;
-use crate::memory_sink::MemorySink;
 use linked_list_allocator::LocalHeap;
 use std::alloc::Allocator;
 use std::process::Abort;
 use std::test::Fail;
+use test_sinks::MemorySink;
 use ultra_block::Blocks;
 use ultra_isa::{Instr, Program};
 use ultra_msg::{Event, Register};
@@ -124,11 +124,7 @@ fn has_refused<A: Allocator + Clone>(
 }
 
 /// Makes a cycle, and writes its lines.
-fn make_cycle<R: Abort>(
-    rt: &R,
-    blocks: &mut Blocks,
-    out: &mut MemorySink<'_, R>,
-) -> Result<(), Fail> {
+fn make_cycle<R: Abort>(rt: &R, blocks: &mut Blocks, out: &mut MemorySink) -> Result<(), Fail> {
     assert!(rt; blocks.done() < 10);
     blocks.cycle();
     assert!(rt; blocks.done() > 0);
@@ -141,7 +137,7 @@ fn run_beside<R: Abort, A: Allocator + Clone>(
     rt: &R,
     blocks: &mut Blocks,
     explainer: &mut Explainer<A>,
-    out: &mut MemorySink<'_, R>,
+    out: &mut MemorySink,
 ) -> Result<(), Fail> {
     for cycle in 0..10 {
         make_cycle(rt, blocks, out)?;
@@ -161,8 +157,8 @@ fn explainer_without_memory(rt: HostRuntime) -> Result<(), Fail> {
     let mut blocks = machine(&rt)?;
     let heap = LocalHeap::new(rt.alloc(), bytes_after(&rt, 0))?;
     let mut explainer = explainer(&rt, &heap);
-    let mut out = MemorySink::new(&rt, usize::MAX);
+    let mut out = MemorySink::new(rt.alloc())?;
     run_beside(&rt, &mut blocks, &mut explainer, &mut out)?;
-    assert_eq!(&rt; out.bytes(), TWO_LEVEL_TREE.as_bytes());
+    assert_eq!(&rt; out.bytes.as_slice(), TWO_LEVEL_TREE.as_bytes());
     Ok(())
 }

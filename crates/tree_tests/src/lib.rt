@@ -10,8 +10,6 @@ mod heaps;
 #[cfg(test)]
 mod high;
 #[cfg(test)]
-mod memory_sink;
-#[cfg(test)]
 mod nodes;
 #[cfg(test)]
 mod three_stages;

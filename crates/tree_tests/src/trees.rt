@@ -1,11 +1,11 @@
 //! The tree of a worked run, and which events an explainer accepts.
 
 use crate::events::{absorb, absorb_all, all_combined, explainer, issue, meeting, serve, serving};
-use crate::memory_sink::MemorySink;
 use linked_list_allocator::LocalHeap;
 use std::alloc::Allocator;
 use std::process::Abort;
 use std::test::Fail;
+use test_sinks::{MemorySink, SinkLimits};
 use ultra_msg::{Cell, Event, Op, Pe, SinkFault, Word};
 use ultra_tree::{Explainer, Leaf, Tree, height, leaves, write_tree};
 
@@ -48,9 +48,9 @@ pub(crate) fn check_text<R: Abort + AllocGlobal, A: Allocator>(
     tree: &Tree<A>,
     wanted: &[u8],
 ) {
-    let mut sink = MemorySink::new(rt, usize::MAX);
+    let mut sink = MemorySink::new(rt.alloc()).expect(rt, "no memory");
     assert!(rt; write_tree(tree, &mut sink).is_ok());
-    assert_eq!(rt; sink.bytes(), wanted);
+    assert_eq!(rt; sink.bytes.as_slice(), wanted);
 }
 
 /// Asserts that of a tree this beginning is written into a sink that fails after this many writes.
@@ -60,9 +60,10 @@ fn check_beginning<R: Abort + AllocGlobal, A: Allocator>(
     sound_writes: usize,
     wanted: &[u8],
 ) {
-    let mut sink = MemorySink::new(rt, sound_writes);
+    let limits = SinkLimits::none().failing_after(sound_writes);
+    let mut sink = MemorySink::with_limits(rt.alloc(), limits).expect(rt, "no memory");
     assert_eq!(rt; write_tree(tree, &mut sink), Err(SinkFault));
-    assert_eq!(rt; sink.bytes(), wanted);
+    assert_eq!(rt; sink.bytes.as_slice(), wanted);
     assert_eq!(rt; sink.failures, 1);
 }
 

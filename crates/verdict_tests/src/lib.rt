@@ -2,6 +2,4 @@
 #![tactic(auto)]
 
 #[cfg(test)]
-mod memory_sink;
-#[cfg(test)]
 mod verdicts;

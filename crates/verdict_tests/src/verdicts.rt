@@ -1,9 +1,9 @@
 //! Verdicts on lists. The expected lines are those of the reference program.
 
-use crate::memory_sink::MemorySink;
 use std::alloc::Global;
 use std::process::Abort;
 use std::test::Fail;
+use test_sinks::{MemorySink, SinkLimits};
 use test_support::{add_one, config, defaults, program, register};
 use ultra_isa::{Instr, Program};
 use ultra_list::read_list;
@@ -63,9 +63,9 @@ fn check_verdict(
     expected: &str,
 ) -> Result<(), Fail> {
     let list = read_list(rt.alloc(), text.as_bytes())?;
-    let mut out = MemorySink::failing_after(rt, usize::MAX);
+    let mut out = MemorySink::new(rt.alloc())?;
     let legal = write_verdict(rt.alloc(), config, program, list.as_slice(), &mut out)?;
-    assert_eq!(rt; out.text(), expected);
+    assert_eq!(rt; out.text()?, expected);
     assert_eq!(rt; legal, expected == "legal\n");
     Ok(())
 }
@@ -179,7 +179,8 @@ fn unanswered_entries(rt: HostRuntime) -> Result<(), Fail> {
 fn failed_write(rt: HostRuntime) -> Result<(), Fail> {
     let config = config(rt.alloc(), 1)?;
     let program = add_one(rt.alloc())?;
-    let mut out = MemorySink::failing_after(&rt, 0);
+    let limits = SinkLimits::none().failing_after(0);
+    let mut out = MemorySink::with_limits(rt.alloc(), limits)?;
     let written = write_verdict(rt.alloc(), &config, &program, &[], &mut out);
     if written == Err(VerdictFault::NoMemory) {
         return Err("no memory".into());
