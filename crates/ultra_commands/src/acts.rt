@@ -13,7 +13,7 @@ use crate::line_buffer::LineBuffer;
 use std::alloc::Allocator;
 use ultra_inputs::Failure;
 use ultra_msg::{Cell, Event, Sink, SinkFault, write_all};
-use ultra_tree::{Explainer, ShortText, Tree, add_bytes, add_number, write_tree};
+use ultra_tree::{Explainer, ShortText, Tree, add_bytes, add_decimal, write_tree};
 
 /// Puts the lines of a cycle's acts at the end of the lines that wait. `HeapFull` says that the
 /// explainer's memory was refused, and `NoMemory` that memory for the lines was. A prefix of the
@@ -122,11 +122,11 @@ fn write_place<S: Sink>(
 {
     let mut text = ShortText::new();
     add_bytes(&mut text, b"cycle ");
-    add_number(&mut text, cycle);
+    add_decimal(&mut text, cycle);
     add_bytes(&mut text, b" module ");
-    add_number(&mut text, memory_module);
+    add_decimal(&mut text, memory_module);
     add_bytes(&mut text, b" cell ");
-    add_number(&mut text, cell);
+    add_decimal(&mut text, cell);
     add_bytes(&mut text, b" ");
     write_all(sink, text.as_slice())
 }

@@ -20,12 +20,12 @@ abbrev pub number_of : Option OpenRequest → ℕ
 number_of None = 0
 number_of (Some o) = o.number
 
-abbrev pub number_in : List (List OpenRequest) → ℕ → ℕ → ℕ
-number_in rows p a = number_of (request_for a (row rows p))
+abbrev pub number_in_rows : List (List OpenRequest) → ℕ → ℕ → ℕ
+number_in_rows rows p a = number_of (request_for a (row rows p))
 
 -- the line of an event, and the row of a delivery
 abbrev pub event_line_at : ℕ → List (List OpenRequest) → Event → List ℕ
-event_line_at cycle rows e = event_line (number_in rows) cycle e
+event_line_at cycle rows e = event_line (number_in_rows rows) cycle e
 
 abbrev pub answer_if : ℕ → ReplyMessage → Option OpenRequest → List ℕ
 answer_if cycle r None = []

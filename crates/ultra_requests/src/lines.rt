@@ -3,7 +3,7 @@
 ghost use Rattle.std.specs.Prelude.{◌≡◌, ◌<◌, ◌++◌, length, codes, decimal};
 ghost use Rattle.ultra_model.specs.Text.{newline, op_text, reply_text};
 ghost use Rattle.ultra_io.specs.TextBuffer.{Writes};
-ghost use Rattle.ultra_requests.specs.Along.{event_line_at, number_in, HasRows};
+ghost use Rattle.ultra_requests.specs.Along.{event_line_at, number_in_rows, HasRows};
 ghost use Rattle.ultra_requests.specs.EventLines.{named_text, stop_line};
 
 use crate::texts::{
@@ -59,7 +59,7 @@ pub(crate) fn put_event<S: Sink>(
 /// The number of the open request of a processing element for a cell.
 fn open_number(table: &OpenTable, pe: Pe, cell: Cell) -> u32
     requires { pe < length table.now.rows.items }
-    ensures { result ≡ number_in table.now.rows.items pe cell }
+    ensures { result ≡ number_in_rows table.now.rows.items pe cell }
 {
     match table.request(pe, cell) {
         Some(request) => request.number,
@@ -76,7 +76,7 @@ fn put_answer<S: Sink>(
 )
     requires { reply.pe < length table.now.rows.items }
     ensures { Writes S.taken S.failures
-        (decimal cycle ++ codes " answer " ++ named_text reply.pe (number_in table.now.rows.items reply.pe reply.cell) reply.cell ++ codes " = " ++ reply_text reply.reply ++ newline) buffer.old buffer.new }
+        (decimal cycle ++ codes " answer " ++ named_text reply.pe (number_in_rows table.now.rows.items reply.pe reply.cell) reply.cell ++ codes " = " ++ reply_text reply.reply ++ newline) buffer.old buffer.new }
 {
     let number = open_number(table, reply.pe, reply.cell);
     let at = begin_line(buffer, cycle, b" answer ");
@@ -98,7 +98,7 @@ fn put_act<S: Sink>(
 )
     requires { request.pe < length table.now.rows.items }
     ensures { Writes S.taken S.failures
-        (decimal cycle ++ codes " act " ++ decimal module_number ++ codes " " ++ named_text request.pe (number_in table.now.rows.items request.pe request.cell) request.cell ++ codes " " ++ op_text request.op ++ codes " = " ++ reply_text reply ++ codes " now " ++ decimal now ++ newline) buffer.old buffer.new }
+        (decimal cycle ++ codes " act " ++ decimal module_number ++ codes " " ++ named_text request.pe (number_in_rows table.now.rows.items request.pe request.cell) request.cell ++ codes " " ++ op_text request.op ++ codes " = " ++ reply_text reply ++ codes " now " ++ decimal now ++ newline) buffer.old buffer.new }
 {
     let number = open_number(table, request.pe, request.cell);
     let at = begin_line(buffer, cycle, b" act ");

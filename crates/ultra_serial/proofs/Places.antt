@@ -5,7 +5,7 @@ use Rattle.std.specs.Global.{Vec}
 use Rattle.std.proofs.lemmas.Bool.{cases_eq}
 use Rattle.std.proofs.lemmas.Option.{slice_get_past, slice_get_read}
 use Rattle.ultra_serial.specs.ByPair.{is_pair, with_item, lists_with}
-use Rattle.ultra_serial.specs.ByName.{one_at, place_in, place_of, or_else}
+use Rattle.ultra_serial.specs.ByName.{one_at, place_in, place_of, list_or}
 use Rattle.ultra_serial.proofs.ByPair.{same_pair}
 use Rattle.ultra_serial.proofs.RecordsByName.{pair_same}
 
@@ -83,17 +83,17 @@ module _ (rows : List (Vec ℕ)) (row : Vec ℕ) (zeros : (b : ℕ) → slice_in
   row_of_zeros a b = row_when a b (cases_eq a (length rows))
 
 -- ---- lists
-or_push : {X : Type 0} (us vs : List X) (x : X) → (us ≡ [] → vs ≡ []) → or_else (us ++ x ∷ []) vs ≡ or_else us vs ++ x ∷ []
+or_push : {X : Type 0} (us vs : List X) (x : X) → (us ≡ [] → vs ≡ []) → list_or (us ++ x ∷ []) vs ≡ list_or us vs ++ x ∷ []
 or_push [] vs x e = ap (λ ws. ws ++ x ∷ []) (sym (e refl))
 or_push (u ∷ us) vs x e = refl
 
-pub both_none : {X : Type 0} (us vs : List X) → or_else us vs ≡ [] → vs ≡ []
+pub both_none : {X : Type 0} (us vs : List X) → list_or us vs ≡ [] → vs ≡ []
 both_none [] vs e = e
 both_none (u ∷ us) vs e = absurd cc
 
 module _ {X : Type 0} (whole : List X) (p n : ℕ) where
   abbrev named : (ℕ → ℕ → List X) → (ℕ → ℕ → ℕ) → ℕ → ℕ → List X
-  named other place a b = or_else (other a b) (one_at whole (place a b))
+  named other place a b = list_or (other a b) (one_at whole (place a b))
 
   -- an item comes to the map
   module _ (place : ℕ → ℕ → ℕ) (x : X) (other more : ℕ → ℕ → List X) (grown : (a b : ℕ) → more a b ≡ lists_with other p n x a b) where
@@ -105,13 +105,13 @@ module _ {X : Type 0} (whole : List X) (p n : ℕ) where
 
     module _ (none : other p n ≡ [] → one_at whole (place p n) ≡ []) where
       pushed_here : named more place p n ≡ named other place p n ++ x ∷ []
-      pushed_here = ap (λ us. or_else us (one_at whole (place p n))) grown_here ∙ or_push (other p n) (one_at whole (place p n)) x none
+      pushed_here = ap (λ us. list_or us (one_at whole (place p n))) grown_here ∙ or_push (other p n) (one_at whole (place p n)) x none
 
       pushed_when : (a b : ℕ) (t : Bool) → is_pair p n a b ≡ t → named more place a b ≡ with_item t (named other place a b) x
       pushed_when a b true e =
           let s = same_pair p n a b e in
           subst (λ i. named more place i b ≡ named other place i b ++ x ∷ []) s.0 (subst (λ j. named more place p j ≡ named other place p j ++ x ∷ []) s.1 pushed_here)
-      pushed_when a b false e = ap (λ us. or_else us (one_at whole (place a b))) (grown_apart a b e)
+      pushed_when a b false e = ap (λ us. list_or us (one_at whole (place a b))) (grown_apart a b e)
 
       pub other_pushed : (a b : ℕ) → named more place a b ≡ lists_with (named other place) p n x a b
       other_pushed a b = pushed_when a b (is_pair p n a b) refl

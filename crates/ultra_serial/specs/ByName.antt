@@ -21,11 +21,11 @@ abbrev pub places_with : (ℕ → ℕ → ℕ) → ℕ → ℕ → ℕ → ℕ �
 places_with f p q k a b = elim (is_pair p q a b) [ true ↦ k | false ↦ f a b ]
 
 -- a list, or the other one where it is empty
-abbrev pub or_else : {X : Type 0} → List X → List X → List X
-or_else [] other = other
-or_else (x ∷ xs) other = x ∷ xs
+abbrev pub list_or : {X : Type 0} → List X → List X → List X
+list_or [] other = other
+list_or (x ∷ xs) other = x ∷ xs
 
 -- the items of processing element p and number n
 abbrev pub list_named : {X : Type 0} → ListsByName X → List X → ℕ → ℕ → List X
 list_named t whole p n =
-    or_else (list_of t.others.lists p n) (one_at whole (place_of t.rows.items p n))
+    list_or (list_of t.others.lists p n) (one_at whole (place_of t.rows.items p n))

@@ -15,6 +15,6 @@ pub use explaining::{ExplainFault, Explainer};
 pub use heights::height;
 pub use listing::{Leaf, TreeFault, leaves};
 pub use nodes::{Node, Part};
-pub use short_text::{SHORT_BYTES, ShortText, add_bytes, add_number};
+pub use short_text::{SHORT_BYTES, ShortText, add_bytes, add_decimal};
 pub use trees::Tree;
 pub use writing::write_tree;

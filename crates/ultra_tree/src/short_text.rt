@@ -28,7 +28,7 @@ pub fn add_bytes(text: &mut ShortText, bytes: &[u8])
 
 /// Adds a number in decimal digits, at most 10.
 #[inline(always)]
-pub fn add_number(text: &mut ShortText, number: u32)
+pub fn add_decimal(text: &mut ShortText, number: u32)
     requires { array_vec_len text.old + 10 ≤ SHORT_BYTES }
     ensures items { text.new.items ≡ text.old.items ++ decimal number }
     ensures len { array_vec_len text.new ≤ array_vec_len text.old + 10 }

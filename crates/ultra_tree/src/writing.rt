@@ -8,7 +8,7 @@ ghost use Rattle.ultra_tree.specs.Seen.{seen};
 ghost use Rattle.ultra_tree.specs.declared.writing.TheConstants.{FEW_CLOSINGS};
 ghost use Rattle.ultra_tree.specs.Text.{leaf_text, head_text, opening, closings, order_mark_text, tree_text};
 
-use crate::short_text::{ShortText, add_bytes, add_closings, add_mark, add_number};
+use crate::short_text::{ShortText, add_bytes, add_closings, add_decimal, add_mark};
 use crate::trees::{CountedNode, Tree};
 use itoa::Buffer;
 use std::alloc::Allocator;
@@ -105,9 +105,9 @@ fn write_leaf_at_once<S: Sink>(
         (S.taken sink.old) (S.taken sink.new) (S.failures sink.old) (S.failures sink.new) }
 {
     let mut text = ShortText::new();
-    add_number(&mut text, pe);
+    add_decimal(&mut text, pe);
     add_bytes(&mut text, b".");
-    add_number(&mut text, number);
+    add_decimal(&mut text, number);
     add_closings(&mut text, closing);
     add_mark(&mut text, mark);
     write_all(sink, text.as_slice())
@@ -171,9 +171,9 @@ fn write_head<S: Sink>(stage: u32, position: u32, sink: &mut S) -> Result<(), Si
 {
     let mut text = ShortText::new();
     add_bytes(&mut text, b"[s");
-    add_number(&mut text, stage);
+    add_decimal(&mut text, stage);
     add_bytes(&mut text, b"x");
-    add_number(&mut text, position);
+    add_decimal(&mut text, position);
     add_bytes(&mut text, b" ");
     write_all(sink, text.as_slice())
 }

@@ -1,6 +1,6 @@
 use Rattle.std.proofs.Common.{◌+◌, ◌%◌, ◌++◌, ◌∷◌, [], ap, ◌∙◌}
 use Rattle.ultra_tree.proofs.ShortTexts.{one_digit, two_digits_more}
-use Rattle.ultra_tree.proofs.short_text.add_number.Goals as goal
+use Rattle.ultra_tree.proofs.short_text.add_decimal.Goals as goal
 
 pub returns-then-number-lt10-clause-items : goal.returns-then-number-lt10-clause-items
 returns-then-number-lt10-clause-items c = c.push.ensures.items ∙ one_digit c.args.text.now.items c.args.number c.if-number-lt10.true
