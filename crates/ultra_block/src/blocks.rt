@@ -21,6 +21,7 @@ use ultra_mem::Module;
 use ultra_model::{Config, Stop};
 use ultra_msg::{Event, Pe};
 use ultra_partition::{Merge, are_quiet, holders};
+use ultra_route::Net;
 use ultra_switch::{Ports, ToMm, ToPe};
 use ultra_topology::{UnitSet, element_number, module_number, switch_number};
 use ultra_unit_steps::ProcessingElement;
@@ -48,6 +49,19 @@ impl Parts {
         ensures { result.now ≡ block_at self.now.blocks.items (home self.now.partition.items unit) }
     {
         &self.blocks[self.partition[unit] as usize]
+    }
+
+    /// The same where there is only one block: it needs no look at the partition. Only the contract
+    /// uses `_unit`.
+    #[inline(always)]
+    fn home_in_one(&self, _unit: usize) -> &Block
+        requires whole { AreParts self.now }
+        requires one { length self.now.blocks.items ≡ 1 }
+        requires unit { _unit < unit_count self.now.config.stages }
+        ensures { result.now ≡
+            block_at self.now.blocks.items (home self.now.partition.items _unit) }
+    {
+        &self.blocks[0]
     }
 }
 
@@ -322,6 +336,51 @@ impl Blocks {
         let number = switch_number(self.parts.config.net(), stage, position / 2);
         let switch = self.parts.home_of(number).switch(number);
         at(&switch.to_pe, position % 2)
+    }
+
+    /// The same as `lane`, in a machine in one block. `net` is its network.
+    #[inline(always)]
+    pub fn lane_of_one(&self, net: Net, stage: u32, position: u32) -> &ToMm
+        requires one { self.now.count ≡ 1 }
+        requires net { net ≡ self.now.config.stages }
+        requires stage { stage < self.now.config.stages }
+        requires position { position < 2 ^ self.now.config.stages }
+        ensures state { result.now.lane ≡ lane_at self.now.machine stage position }
+        ensures requests { result.now.request_places ≡ self.now.config.request_places }
+        ensures waits { result.now.wait_places ≡ self.now.config.wait_places }
+    {
+        let unit = switch_number(net, stage, position / 2);
+        let only = self.parts.home_in_one(unit);
+        at(&only.switch(unit).to_mm, position % 2)
+    }
+
+    /// The same as `reply_queue`, in a machine in one block. `net` is its network.
+    #[inline(always)]
+    pub fn reply_queue_of_one(&self, net: Net, stage: u32, position: u32) -> &ToPe
+        requires one { self.now.count ≡ 1 }
+        requires net { net ≡ self.now.config.stages }
+        requires stage { stage < self.now.config.stages }
+        requires position { position < 2 ^ self.now.config.stages }
+        ensures state { result.now.replies ≡ replies_at self.now.machine stage position }
+        ensures places { result.now.places ≡ self.now.config.reply_places }
+    {
+        let unit = switch_number(net, stage, position / 2);
+        let only = self.parts.home_in_one(unit);
+        at(&only.switch(unit).to_pe, position % 2)
+    }
+
+    /// The same as `element`, in a machine in one block. `net` is its network.
+    #[inline(always)]
+    pub fn element_of_one(&self, net: Net, pe: Pe) -> &ProcessingElement
+        requires one { self.now.count ≡ 1 }
+        requires net { net ≡ self.now.config.stages }
+        requires pe { pe < 2 ^ self.now.config.stages }
+        ensures state { element_of result.now ≡ element_at self.now.machine pe }
+        ensures site { result.now.processor.site ≡ site self.now.config pe }
+        ensures most_open { result.now.interface.most_open ≡ self.now.config.most_open }
+    {
+        let unit = element_number(net, pe);
+        self.parts.home_in_one(unit).element(pe)
     }
 
     /// A memory module, by its number.

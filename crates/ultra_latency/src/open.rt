@@ -122,6 +122,7 @@ impl OpenTable {
     }
 
     /// The events of a cycle happened. The latencies of its deliveries come to those that are kept.
+    #[inline(always)]
     pub fn note_events(&mut self, events: &[Event], cycle: u32, latencies: &mut Latencies)
         requires places { HavePlaces cycle self.old.rows.items events.now }
         requires early { cycle ≤ 2 ^ 20 }

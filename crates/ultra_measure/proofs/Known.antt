@@ -8,13 +8,13 @@ use Rattle.ultra_isa.specs.Step.{has_stopped, is_stall}
 use Rattle.ultra_model.specs.Machine.{Settings, Machine, size, element_at}
 use Rattle.ultra_model.specs.Phases.{after, step_at}
 use Rattle.ultra_model.specs.Ranges.{AreInRange}
-use Rattle.ultra_model.specs.Balance.{total, weight}
+use Rattle.ultra_model.specs.Balance.{count, total, weight}
 use Rattle.ultra_topology.specs.Set.{has_bit}
 use Rattle.ultra_measure.specs.declared.element_states.ElementStates.{ElementStates}
 use Rattle.ultra_measure.specs.Held.{running, stalled, opened}
 use Rattle.ultra_measure.specs.Happened.{is_delivery_to}
 use Rattle.ultra_measure.specs.PeSet.{IsTaken}
-use Rattle.ultra_measure.specs.ElementStates.{is_awake, is_resting, state_number, three_in_one, IsKnown, AreKnownBut, AreKnown, AreSeen, AreWithin, IsSameAt, IsLeftAlone}
+use Rattle.ultra_measure.specs.ElementStates.{is_awake, is_resting, state_number, three_in_one, IsKnown, AreKnownBut, AreKnown, AreSeen, AreAnswered, AreBelow, IsSameAt, IsLeftAlone}
 use Rattle.ultra_measure.proofs.Events.{count_more}
 use Rattle.ultra_measure.proofs.Resting.{still_rests, same_running, same_stalled, same_opened}
 use Rattle.ultra_measure.proofs.Tallies.{total_beyond, total_three, three_are, total_small}
@@ -38,33 +38,47 @@ rests_where_equal c program m p a b runs stalls same =
     let equal : running m p ≡ stalled c program m p = sym runs ∙ same ∙ stalls in
     no_step (has_stopped (element_at m p).core.activity) (is_stall (step_at c program m p).was) (grind (arith, nat_tests, equal))
 
--- ---- no events so far, and one more
-module _ (s : ElementStates) (es : List Event) (p : ℕ) where
-  pub alone_at_first : is_awake s p ≡ false → IsLeftAlone s [] p
-  alone_at_first asleep = record { asleep = asleep; unanswered = refl }
+zero_weight : (b : Bool) → b ≡ false → weight b ≡ 0
+zero_weight b is = ap weight is
 
-  zero_weight : (b : Bool) → b ≡ false → weight b ≡ 0
-  zero_weight b is = ap weight is
-
-  pub alone_still : (n : ℕ) (e : Event) → n < length es → IsLeftAlone s (take n es) p → is_delivery_to p (get_or es n e) ≡ false → IsLeftAlone s (take (n + 1) es) p
-  alone_still n e here alone none = record {
-    asleep = alone.asleep;
-    unanswered = omega (arith, alone.unanswered, count_more (is_delivery_to p) n es e here, zero_weight (is_delivery_to p (get_or es n e)) none);
-  }
-
--- what an event puts into a set
-pub and_true : (a b : Bool) → a ≡ true → (a && b) ≡ false → b ≡ false
+and_true : (a b : Bool) → a ≡ true → (a && b) ≡ false → b ≡ false
 and_true true b is none = none
 and_true false b is none = cc
 
-pub test_below : (p n : ℕ) → p < n → nat_lt p n ≡ true
+test_below : (p n : ℕ) → p < n → nat_lt p n ≡ true
 test_below p n h = grind (arith, nat_tests)
 
 not_below : (p n : ℕ) → n ≤ p → nat_lt p n ≡ false
 not_below p n h = grind (arith, nat_tests)
 
-pub none_put : (p n : ℕ) (t : Bool) {a b : Bool} → n ≤ p → a ≡ (b || (nat_lt p n && t)) → b ≡ false → a ≡ false
+none_put : (p n : ℕ) (t : Bool) {a b : Bool} → n ≤ p → a ≡ (b || (nat_lt p n && t)) → b ≡ false → a ≡ false
 none_put p n t {a} {b} h is none = is ∙ ap (λ k. k || (nat_lt p n && t)) none ∙ ap (λ k. k && t) (not_below p n h)
+
+-- ---- those to which events deliver replies: of no event, and of one more
+module _ (n : ℕ) where
+  pub none_answered : (elements : ℕ) → ((p : ℕ) → has_bit elements p ≡ false) → AreAnswered n [] elements
+  none_answered elements none = record { each = λ p h no. refl; within = λ p h. none p }
+
+  pub one_answered : (es : List Event) (i : ℕ) (e : Event) (old new : ℕ) → i < length es → AreAnswered n (take i es) old → ((p : ℕ) → has_bit new p ≡ (has_bit old p || (nat_lt p n && is_delivery_to p (get_or es i e)))) → AreAnswered n (take (i + 1) es) new
+  one_answered es i e old new here are put = record {
+    each = λ p h none.
+        let parts = both_false (has_bit old p) (nat_lt p n && is_delivery_to p (get_or es i e)) (sym (put p) ∙ none) in
+        let other = and_true (nat_lt p n) (is_delivery_to p (get_or es i e)) (test_below p n h) parts.1 in
+        let before : count (is_delivery_to p) (take i es) ≡ 0 = are.each p h parts.0 in
+        let one : weight (is_delivery_to p (get_or es i e)) ≡ 0 = zero_weight (is_delivery_to p (get_or es i e)) other in
+        omega (arith, before, count_more (is_delivery_to p) i es e here, one);
+    within = λ p h. none_put p n _ h (put p) (are.within p h);
+  }
+
+-- those that are awake, or to which replies come, are due
+module _ (s : ElementStates) (n : ℕ) (es : List Event) (answered due : ℕ) (are : AreAnswered n es answered) (is : (p : ℕ) → has_bit due p ≡ (is_awake s p || has_bit answered p)) where
+  pub others_left_alone : (p : ℕ) → p < n → has_bit due p ≡ false → IsLeftAlone s es p
+  others_left_alone p h none =
+      let parts = both_false _ _ (sym (is p) ∙ none) in
+      record { asleep = parts.0; unanswered = are.each p h parts.1 }
+
+  pub due_below : AreBelow n s.awake → AreBelow n due
+  due_below within p h = is p ∙ ap (λ b. b || has_bit answered p) (within p h) ∙ are.within p h
 
 -- ---- one is looked at
 module _ (c : Settings) (program : List Instr) (m : Machine) where
@@ -84,14 +98,14 @@ module _ (c : Settings) (program : List Instr) (m : Machine) where
     within = λ p h. (others p (omega (arith, h, small))).awake ∙ are.within p h;
   }
 
-  pub left_within : (x left rest : ℕ) → AreWithin c left → IsTaken x left rest → AreWithin c rest
+  pub left_within : (x left rest : ℕ) → AreBelow (size c) left → IsTaken x left rest → AreBelow (size c) rest
   left_within x left rest within taken p h = elim (cases_eq p x) [
     | inl same ↦ absurd (let no = within p h in let yes = rw (← same) at taken.there in cc)
     | inr other ↦ taken.others p other ∙ within p h
   ]
 
   -- it is one of the machine
-  pub taken_small : (x left rest : ℕ) → AreWithin c left → IsTaken x left rest → x < size c
+  pub taken_small : (x left rest : ℕ) → AreBelow (size c) left → IsTaken x left rest → x < size c
   taken_small x left rest within taken = elim (cases_lt x (size c)) [
     | inl small ↦ small
     | inr large ↦ absurd (let no = within x large in let yes = taken.there in cc)

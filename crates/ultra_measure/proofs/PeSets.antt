@@ -4,7 +4,7 @@ use Rattle.std.specs.{Int.bit_not}
 use Rattle.std.proofs.lemmas.Bool.{cases_lt}
 use Rattle.std.proofs.lemmas.Bool.Decides.{nat_tests}
 use Rattle.std.proofs.lemmas.Nat.{and_le_l}
-use Rattle.std.proofs.lemmas.Nat.Bits.{ones_shr, bit_at_ones, bit_at_ones_above, bit_at_above, bit_at_set_same, bit_at_set_other, bit_at_clear_same, bit_at_clear_other, bit_at-trailing_zeros}
+use Rattle.std.proofs.lemmas.Nat.Bits.{ones_shr, bit_at_ones, bit_at_ones_above, bit_at-lt, bit_at_or, bit_at_above, bit_at_set_same, bit_at_set_other, bit_at_clear_same, bit_at_clear_other, bit_at-trailing_zeros}
 use Rattle.ultra_topology.specs.Set.{has_bit}
 use Rattle.ultra_topology.proofs.Set.{first, behind, bits_behind, fewer_behind}
 use Rattle.ultra_measure.specs.PeSet.{IsTaken}
@@ -16,6 +16,13 @@ ones_below n k few =
     let one = bit_at_ones n k in
     let none = bit_at_ones_above n k in
     rw shifted (grind (arith, nat_tests))
+
+pub in_either : (a b k : ℕ) → has_bit (bit_or a b) k ≡ (has_bit a k || has_bit b k)
+in_either a b k =
+    let either = bit_at_or a b k in
+    let few_a = bit_at-lt a k in
+    let few_b = bit_at-lt b k in
+    grind (arith, nat_tests)
 
 module _ (bits p : ℕ) (within : p < 64) where
   pub with_one : (k : ℕ) → has_bit (bit_or bits (1 * 2 ^ p % 2 ^ 64)) k ≡ (has_bit bits k || (k == p))

@@ -26,6 +26,7 @@ use Rattle.ultra_measure.specs.declared.measuring.Layout.{Layout}
 use Rattle.ultra_measure.specs.declared.measuring.WindowRun.{WindowRun}
 use Rattle.ultra_measure.specs.Columns.{measures, ending}
 use Rattle.ultra_measure.specs.Kept.{IsAfterCycle, IsKept}
+use Rattle.ultra_measure.specs.Nets.{IsNetOf}
 use Rattle.ultra_measure.specs.Rows.{row_text, ended_if}
 use Rattle.ultra_measure.specs.Running.{AreAfter, IsOn, IsWindowRun}
 use Rattle.ultra_measure.specs.Texts.{all_names, window_of, window_count, job_rows, measure_lines, measure_table, measure_text, measured, names_line}
@@ -75,6 +76,9 @@ module _ (c : Settings) (program : List Instr) where
 
     pub one_next : b.count ≡ 1
     one_next = ap (λ (x : BlocksState). x.count) made ∙ now.one
+
+    pub net_next : {small : Bool} {net : ℕ} → IsNetOf small net c → IsNetOf small net b.config
+    net_next {small} {net} is = subst (IsNetOf small net) (sym state_next.settings) is
 
     pub run_next : IsAfterCycle n b
     run_next = after_cycle n b state_next

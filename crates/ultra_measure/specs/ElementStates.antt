@@ -28,9 +28,14 @@ is_resting c program m p =
 abbrev pub is_awake : ElementStates → ℕ → Bool
 is_awake s p = has_bit s.awake p
 
--- the machine has all these processing elements
-abbrev pub AreWithin : Settings → ℕ → Type 0
-AreWithin c elements = (p : ℕ) → size c ≤ p → has_bit elements p ≡ false
+-- a set has only numbers below n
+abbrev pub AreBelow : ℕ → ℕ → Type 0
+AreBelow n elements = (p : ℕ) → n ≤ p → has_bit elements p ≡ false
+
+-- of the first n processing elements a set has at least each to which these events deliver a reply
+pub record AreAnswered (n : ℕ) (es : List Event) (elements : ℕ) : Type 0 where
+  pub each : (p : ℕ) → p < n → has_bit elements p ≡ false → count (is_delivery_to p) es ≡ 0
+  pub within : AreBelow n elements
 
 module _ (c : Settings) (program : List Instr) (m : Machine) where
   -- processing element p is as it was seen, and rests, unless it is awake
@@ -42,7 +47,7 @@ module _ (c : Settings) (program : List Instr) (m : Machine) where
   pub record AreKnownBut (t : ℕ → Bool) (s : ElementStates) : Type 0 where
     pub each : (p : ℕ) → p < size c → t p ≡ false → IsKnown s p
     pub none : (p : ℕ) → size c ≤ p → slice_index s.tally p ≡ 0
-    pub within : AreWithin c s.awake
+    pub within : AreBelow (size c) s.awake
 
   -- all
   abbrev pub AreKnown : ElementStates → Type 0

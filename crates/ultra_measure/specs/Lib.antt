@@ -6,6 +6,7 @@ pub mod Texts
 pub mod Counts
 pub mod Sums
 pub mod Kept
+pub mod Nets
 pub mod Rows
 pub mod Running
 pub mod Tally

@@ -2,16 +2,16 @@
 
 ghost use Rattle.std.specs.Prelude.{◌≡◌, ℕ, List, ◌+◌, ◌^◌, ◌<◌, ◌≤◌, slice_index};
 ghost use Rattle.ultra_isa.specs.declared.Instr.{Instr as InstrOf};
-ghost use Rattle.ultra_model.specs.Machine.{Settings, size};
-ghost use Rattle.ultra_model.specs.Balance.{total};
+ghost use Rattle.ultra_model.specs.Machine.{Settings};
 ghost use Rattle.ultra_measure.specs.Sums.{HaveRoom};
-ghost use Rattle.ultra_measure.specs.Held.{AreUnitsWith, full_at, held_at};
+ghost use Rattle.ultra_measure.specs.Held.{AreUnitsWith};
 ghost use Rattle.ultra_measure.specs.Kept.{AreDepths, AreWithState, IsAfterCycle};
-ghost use Rattle.ultra_measure.specs.Window.{greatest};
+ghost use Rattle.ultra_measure.specs.Nets.{IsNetOf};
 
-use crate::queues::{Depth, depth_of_stage, net_of};
+use crate::queues::depth_of_stage;
 use ultra_block::{Blocks, Held};
-use ultra_topology::{UnitSet, is_small};
+use ultra_route::Net;
+use ultra_topology::UnitSet;
 
 /// What the stages hold of a kind, by stage: the sums over cycles, and the most of one queue or
 /// wait buffer. Also the sums of the wait buffers that are full.
@@ -40,57 +40,52 @@ impl Depths {
 
     /// Over one cycle more, of a kind. `from` is the first, and `cycle` this one.
     #[inline(always)]
-    pub(crate) fn note_cycle(&mut self, blocks: &Blocks, held: Held, from: u32, cycle: u32)
+    pub(crate) fn note_cycle<const SMALL: bool>(
+        &mut self,
+        blocks: &Blocks,
+        net: Net,
+        held: Held,
+        from: u32,
+        cycle: u32,
+    )
         requires one { blocks.now.count ≡ 1 }
+        requires net { IsNetOf SMALL net blocks.now.config }
         requires run { IsAfterCycle cycle blocks.now }
         requires order { from ≤ cycle }
         requires kept { AreDepths blocks.now.config blocks.now.program from cycle held self.old }
         ensures { AreDepths blocks.now.config blocks.now.program from (cycle + 1) held self.new }
     {
-        // for the prover: how many stages and positions there are
-        let _net = net_of(blocks);
         let holders = blocks.holding_of_one(held);
         // where nothing is held, as often in a small machine, no sum and no most changes
         if holders.is_empty() {
             return;
         }
-        self.note_stages(blocks, held, holders);
+        self.note_stages::<SMALL>(blocks, net, held, holders);
     }
 
     /// Adds what each stage holds of a kind in one state of a machine. `holders` are the units that
     /// hold it. Each kind has its own specialised copy, which asks no switch for the kind.
     #[inline(always)]
-    fn note_stages(&mut self, blocks: &Blocks, held: Held, holders: &UnitSet)
+    fn note_stages<const SMALL: bool>(
+        &mut self,
+        blocks: &Blocks,
+        net: Net,
+        held: Held,
+        holders: &UnitSet,
+    )
+        requires one { blocks.now.count ≡ 1 }
+        requires net { IsNetOf SMALL net blocks.now.config }
         requires holders { AreUnitsWith blocks.now held holders.now }
         requires room { HaveRoom 6 self.old.sums }
         requires room_full { HaveRoom 6 self.old.full }
         ensures { AreWithState blocks.now.config blocks.now.machine held self.old self.new }
     {
-        for stage in 0..blocks.config().stages() {
-            let here = depth_of_one(blocks, held, holders, stage);
+        for stage in 0..net.stages() {
+            let here = depth_of_stage::<SMALL>(blocks, net, held, holders, stage);
             let at = stage as usize;
             self.sums[at] += u64::from(here.sum);
             self.mosts[at] = self.mosts[at].max(here.most);
             self.full[at] += u64::from(here.full);
         }
-    }
-}
-
-/// What a stage holds of a kind. Small machines use a specialised copy.
-#[inline(always)]
-fn depth_of_one(blocks: &Blocks, held: Held, holders: &UnitSet, stage: u32) -> Depth
-    requires stage { stage < blocks.now.config.stages }
-    requires holders { AreUnitsWith blocks.now held holders.now }
-    ensures sum { result.sum ≡
-        total (size blocks.now.config) (held_at held stage blocks.now.machine) }
-    ensures most { result.most ≡
-        greatest (size blocks.now.config) (held_at held stage blocks.now.machine) }
-    ensures full { result.full ≡
-        total (size blocks.now.config) (full_at blocks.now.config held stage blocks.now.machine) }
-{
-    if is_small(net_of(blocks)) {
-        depth_of_stage::<true>(blocks, held, holders, stage)
-    } else {
-        depth_of_stage::<false>(blocks, held, holders, stage)
     }
 }

@@ -1,21 +1,18 @@
 //! The processing elements as they were last looked at. One that would stall, or has stopped, is
 //! left as it is until a reply comes to it, so it isn't looked at before.
 
-ghost use Rattle.std.specs.Prelude.{◌≡◌, ◌≢◌, ℕ, List, ◌+◌, ◌*◌, ◌^◌, ◌<◌, ◌≤◌, ◌&&◌, ◌||◌, ◌==◌, false, nat_lt};
+ghost use Rattle.std.specs.Prelude.{◌≡◌, ◌≢◌, ℕ, List, ◌+◌, ◌*◌, ◌^◌, ◌<◌, ◌≤◌};
 ghost use Rattle.ultra_isa.specs.declared.Instr.{Instr as InstrOf};
-ghost use Rattle.ultra_model.specs.Machine.{Settings, Machine};
+ghost use Rattle.ultra_model.specs.Machine.{Settings, Machine, size};
 ghost use Rattle.ultra_model.specs.Phases.{after};
 ghost use Rattle.ultra_topology.specs.Set.{has_bit};
 ghost use Rattle.ultra_measure.specs.Held.{running, stalled, opened};
-ghost use Rattle.ultra_measure.specs.Happened.{is_delivery_to};
 ghost use Rattle.ultra_measure.specs.Kept.{IsAfterCycle};
-ghost use Rattle.ultra_measure.specs.ElementStates.{AreKnown, AreKnownBut, AreSeen, AreWithin, IsKnown, IsLeftAlone, IsSameAt, three_in_one};
+ghost use Rattle.ultra_measure.specs.ElementStates.{AreAnswered, AreBelow, AreKnown, AreKnownBut, AreSeen, IsKnown, IsSameAt, three_in_one};
 
 use crate::pe_set::PeSet;
-use crate::queues::net_of;
 use crate::tally::Tally;
 use ultra_block::Blocks;
-use ultra_msg::Event;
 use ultra_route::Net;
 
 /// What one processing element is doing.
@@ -50,63 +47,54 @@ impl ElementStates {
         }
     }
 
-    /// Looks again at those that a cycle may have changed.
+    /// Looks again at those that a cycle may have changed: they were awake before, or a reply came
+    /// to them. `answered` are the latter.
     #[inline(always)]
-    pub(crate) fn note_cycle(&mut self, blocks: &Blocks, cycle: u32)
+    pub(crate) fn note_cycle(&mut self, blocks: &Blocks, net: Net, cycle: u32, answered: PeSet)
         requires one { blocks.now.count ≡ 1 }
+        requires net { net ≡ blocks.now.config.stages }
         requires run { IsAfterCycle cycle blocks.now }
+        requires answered { AreAnswered (size blocks.now.config) blocks.now.machine.events
+            answered }
         requires states { AreSeen blocks.now.config blocks.now.program
             (after blocks.now.config blocks.now.program cycle) self.old }
         ensures { AreKnown blocks.now.config blocks.now.program blocks.now.machine self.new }
     {
         // for the prover: the settings are in their ranges
         let _valid = blocks.config().initial();
-        let due = self.elements_due(blocks);
-        self.look_at_all(blocks, due);
-    }
-
-    /// Those that the last cycle may have changed: they were awake before, or a reply came to them.
-    #[inline(always)]
-    fn elements_due(&self, blocks: &Blocks) -> PeSet
-        requires one { blocks.now.count ≡ 1 }
-        requires within { AreWithin blocks.now.config self.now.awake }
-        ensures others { (p : ℕ) → p < 2 ^ blocks.now.config.stages → has_bit result p ≡ false →
-            IsLeftAlone self.now blocks.now.machine.events p }
-        ensures within { AreWithin blocks.now.config result }
-    {
-        let net = net_of(blocks);
-        let mut due = self.awake;
-        for event in blocks.events_of_one() {
-            add_answered(&mut due, net, event);
-        }
-        due
+        let due = self.awake.union(answered);
+        self.look_at_all(blocks, net, due);
     }
 
     /// Looks at some of the elements of a machine; all others are known.
     #[inline(always)]
-    fn look_at_all(&mut self, blocks: &Blocks, due: PeSet)
-        requires within { AreWithin blocks.now.config due }
+    fn look_at_all(&mut self, blocks: &Blocks, net: Net, due: PeSet)
+        requires one { blocks.now.count ≡ 1 }
+        requires net { net ≡ blocks.now.config.stages }
+        requires within { AreBelow (size blocks.now.config) due }
         requires others { AreKnownBut blocks.now.config blocks.now.program blocks.now.machine
             (λ p. has_bit due p) self.old }
         ensures { AreKnown blocks.now.config blocks.now.program blocks.now.machine self.new }
     {
         let mut left = due;
         'due: while let Some(pe) = left.take_first() {
-            self.look_at(blocks, pe);
+            self.look_at(blocks, net, pe);
         }
     }
 
     /// Looks at a processing element.
     #[inline(always)]
-    fn look_at(&mut self, blocks: &Blocks, pe: u32)
-        requires { pe < 2 ^ blocks.now.config.stages }
+    fn look_at(&mut self, blocks: &Blocks, net: Net, pe: u32)
+        requires one { blocks.now.count ≡ 1 }
+        requires net { net ≡ blocks.now.config.stages }
+        requires pe { pe < 2 ^ blocks.now.config.stages }
         ensures known { IsKnown blocks.now.config blocks.now.program blocks.now.machine self.new
             pe }
         ensures others { (p : ℕ) → p ≢ pe → IsSameAt self.old self.new p }
     {
         // for the prover: there are at most 64
-        let _net = net_of(blocks);
-        let now = element_now(blocks, pe);
+        let _size = net.size();
+        let now = element_now(blocks, net, pe);
         self.tally.set(pe, now.number());
         self.awake.remove(pe);
         // one that runs and wouldn't stall makes a step
@@ -130,15 +118,17 @@ impl ElementNow {
 
 /// What one processing element is doing.
 #[inline(always)]
-fn element_now(blocks: &Blocks, pe: u32) -> ElementNow
-    requires { pe < 2 ^ blocks.now.config.stages }
+fn element_now(blocks: &Blocks, net: Net, pe: u32) -> ElementNow
+    requires one { blocks.now.count ≡ 1 }
+    requires net { net ≡ blocks.now.config.stages }
+    requires pe { pe < 2 ^ blocks.now.config.stages }
     ensures running { result.running ≡ running blocks.now.machine pe }
     ensures stalled { result.stalled ≡
         stalled blocks.now.config blocks.now.program blocks.now.machine pe }
     ensures opened { result.opened ≡ opened blocks.now.machine pe }
     ensures few { (result.running ≤ 1) × (result.stalled ≤ 1) × (result.opened ≤ 8) }
 {
-    let element = blocks.element(pe);
+    let element = blocks.element_of_one(net, pe);
     ElementNow {
         running: u32::from(!element.processor.has_stopped()),
         stalled: u32::from(
@@ -147,27 +137,5 @@ fn element_now(blocks: &Blocks, pe: u32) -> ElementNow
                 .would_stall(blocks.program(), &element.interface),
         ),
         opened: element.interface.open_count() as u32,
-    }
-}
-
-/// Puts the processing element of a delivery into a set, if the machine has it.
-#[inline(always)]
-fn add_answered(elements: &mut PeSet, net: Net, event: &Event)
-    ensures { (p : ℕ) → has_bit elements.new p ≡
-        has_bit elements.old p || (nat_lt p (2 ^ net) && is_delivery_to p event.now) }
-{
-    if let Event::Delivered(reply) = *event {
-        add_element(elements, net, reply.pe);
-    }
-}
-
-/// Puts a processing element into a set, if the machine has it.
-#[inline(always)]
-fn add_element(elements: &mut PeSet, net: Net, pe: u32)
-    ensures { (p : ℕ) → has_bit elements.new p ≡
-        has_bit elements.old p || (nat_lt p (2 ^ net) && (pe == p)) }
-{
-    if pe < net.size() {
-        elements.insert(pe);
     }
 }

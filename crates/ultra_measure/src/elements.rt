@@ -4,18 +4,19 @@ ghost use Rattle.std.specs.Prelude.{◌≡◌, ℕ, List, ◌+◌, ◌*◌, ◌^
 ghost use Rattle.ultra_isa.specs.declared.Instr.{Instr as InstrOf};
 ghost use Rattle.ultra_model.specs.Machine.{Settings, size};
 ghost use Rattle.ultra_model.specs.Balance.{total};
-ghost use Rattle.ultra_topology.specs.Numbers.{IsSmall};
+ghost use Rattle.ultra_measure.specs.ElementStates.{AreAnswered};
 ghost use Rattle.ultra_measure.specs.Held.{AreUnitsWith, pending};
 ghost use Rattle.ultra_measure.specs.Kept.{AreElementSums, IsAfterCycle};
+ghost use Rattle.ultra_measure.specs.Nets.{IsNetOf};
 ghost use Rattle.ultra_measure.specs.Window.{greatest};
 ghost use Rattle.ultra_block.specs.Held.TheVariants.{Request};
 
 use crate::element_states::ElementStates;
-use crate::queues::net_of;
+use crate::pe_set::PeSet;
 use ultra_block::{Blocks, Held};
 use ultra_holders::elements_in;
 use ultra_route::Net;
-use ultra_topology::{UnitSet, is_small};
+use ultra_topology::UnitSet;
 
 /// How many requests wait in all interfaces, and the most in one.
 #[derive(Clone, Copy, Drop)]
@@ -26,28 +27,11 @@ pub(crate) struct Pending {
     pub(crate) most: u32,
 }
 
-/// The requests that wait in interfaces. Small machines use a specialised copy.
-#[inline(always)]
-fn pending_now(blocks: &Blocks) -> Pending
-    requires { blocks.now.count ≡ 1 }
-    ensures sum { result.sum ≡ total (size blocks.now.config) (pending blocks.now.machine) }
-    ensures most { result.most ≡ greatest (size blocks.now.config) (pending blocks.now.machine) }
-    ensures few { result.sum ≤ 128 * 64 }
-{
-    let net = net_of(blocks);
-    let holders = blocks.holding_of_one(Held::Request);
-    if is_small(net) {
-        pending_in::<true>(blocks, net, holders)
-    } else {
-        pending_in::<false>(blocks, net, holders)
-    }
-}
-
 /// The requests that wait in interfaces. `holders` are the units that hold requests.
 #[inline(always)]
 fn pending_in<const SMALL: bool>(blocks: &Blocks, net: Net, holders: &UnitSet) -> Pending
-    requires net { net ≡ blocks.now.config.stages }
-    requires small { SMALL ≡ true → IsSmall net }
+    requires one { blocks.now.count ≡ 1 }
+    requires net { IsNetOf SMALL net blocks.now.config }
     requires holders { AreUnitsWith blocks.now Request holders.now }
     ensures sum { result.sum ≡ total (size blocks.now.config) (pending blocks.now.machine) }
     ensures most { result.most ≡ greatest (size blocks.now.config) (pending blocks.now.machine) }
@@ -58,7 +42,7 @@ fn pending_in<const SMALL: bool>(blocks: &Blocks, net: Net, holders: &UnitSet) -
     let mut sum: u32 = 0;
     let mut most: u32 = 0;
     for pe in elements_in::<SMALL>(net, holders) {
-        let here = pending_of(blocks, pe);
+        let here = pending_of(blocks, net, pe);
         sum += here;
         most = most.max(here);
     }
@@ -67,12 +51,14 @@ fn pending_in<const SMALL: bool>(blocks: &Blocks, net: Net, holders: &UnitSet) -
 
 /// How many requests wait in the interface of a processing element.
 #[inline(always)]
-fn pending_of(blocks: &Blocks, pe: u32) -> u32
-    requires { pe < 2 ^ blocks.now.config.stages }
+fn pending_of(blocks: &Blocks, net: Net, pe: u32) -> u32
+    requires one { blocks.now.count ≡ 1 }
+    requires net { net ≡ blocks.now.config.stages }
+    requires pe { pe < 2 ^ blocks.now.config.stages }
     ensures value { result ≡ pending blocks.now.machine pe }
     ensures few { result ≤ 8 }
 {
-    blocks.element(pe).interface.pending_count() as u32
+    blocks.element_of_one(net, pe).interface.pending_count() as u32
 }
 
 /// The sums over cycles, and the most requests that ever waited in one interface.
@@ -108,18 +94,27 @@ impl ElementSums {
         }
     }
 
-    /// Over one cycle more. `from` is the first, and `cycle` this one.
-    pub(crate) fn note_cycle(&mut self, blocks: &Blocks, from: u32, cycle: u32)
+    /// Over one cycle more. `from` is the first, and `cycle` this one. `answered` are those to
+    /// which replies came in it.
+    pub(crate) fn note_cycle<const SMALL: bool>(
+        &mut self,
+        blocks: &Blocks,
+        net: Net,
+        from: u32,
+        cycle: u32,
+        answered: PeSet,
+    )
         requires one { blocks.now.count ≡ 1 }
+        requires net { IsNetOf SMALL net blocks.now.config }
         requires run { IsAfterCycle cycle blocks.now }
         requires order { from ≤ cycle }
+        requires answered { AreAnswered (size blocks.now.config) blocks.now.machine.events
+            answered }
         requires kept { AreElementSums blocks.now.config blocks.now.program from cycle self.old }
         ensures { AreElementSums blocks.now.config blocks.now.program from (cycle + 1) self.new }
     {
-        // for the prover: a machine has at most 64 processing elements
-        let _net = net_of(blocks);
-        self.states.note_cycle(blocks, cycle);
-        let pending = pending_now(blocks);
+        self.states.note_cycle(blocks, net, cycle, answered);
+        let pending = pending_in::<SMALL>(blocks, net, blocks.holding_of_one(Held::Request));
         // three sums in one
         let all = self.states.tally.sum();
         self.running += u64::from(all % 0x100);

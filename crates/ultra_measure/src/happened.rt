@@ -1,15 +1,19 @@
 //! How much of what happened in a cycle, and the sums over cycles.
 
-ghost use Rattle.std.specs.Prelude.{◌≡◌, ℕ, List, ◌+◌, ◌-◌, ◌^◌, ◌<◌, ◌≤◌, ◌==◌, length, slice_index};
+ghost use Rattle.std.specs.Prelude.{◌≡◌, ℕ, List, ◌+◌, ◌-◌, ◌^◌, ◌<◌, ◌≤◌, ◌==◌, ◌&&◌, ◌||◌, length, nat_lt, slice_index};
 ghost use Rattle.ultra_isa.specs.declared.Instr.{Instr as InstrOf};
-ghost use Rattle.ultra_model.specs.Machine.{Settings};
+ghost use Rattle.ultra_model.specs.Machine.{Settings, size};
 ghost use Rattle.ultra_model.specs.Balance.{weight};
-ghost use Rattle.ultra_measure.specs.Happened.{is_issue, is_delivery, is_act, is_act_of, is_combination, is_combination_in};
+ghost use Rattle.ultra_measure.specs.Happened.{is_issue, is_delivery, is_delivery_to, is_act, is_act_of, is_combination, is_combination_in};
+ghost use Rattle.ultra_topology.specs.Set.{has_bit};
+ghost use Rattle.ultra_measure.specs.ElementStates.{AreAnswered};
 ghost use Rattle.ultra_measure.specs.Counts.{AreWithEvents, CanTake};
 ghost use Rattle.ultra_measure.specs.Kept.{AreEventSums, IsAfterCycle};
 
+use crate::pe_set::PeSet;
 use ultra_block::Blocks;
 use ultra_msg::Event;
+use ultra_route::Net;
 
 /// Adds one to the count at a place, if there is a count at that place.
 fn count_at<const N: usize>(counts: &mut [u64; N], place: u32)
@@ -59,34 +63,42 @@ impl EventSums {
         }
     }
 
-    /// Over one cycle more. `from` is the first, and `cycle` this one.
-    pub(crate) fn note_cycle(&mut self, blocks: &Blocks, from: u32, cycle: u32)
+    /// Over one cycle more. `from` is the first, and `cycle` this one. Gives the processing elements
+    /// to which replies came.
+    pub(crate) fn note_cycle(&mut self, blocks: &Blocks, net: Net, from: u32, cycle: u32) -> PeSet
         requires one { blocks.now.count ≡ 1 }
+        requires net { net ≡ blocks.now.config.stages }
         requires few { length blocks.now.machine.events < 2 ^ 32 }
         requires few_stops { length blocks.now.machine.stops < 2 ^ 32 }
         requires run { IsAfterCycle cycle blocks.now }
         requires order { from ≤ cycle }
         requires kept { AreEventSums blocks.now.config blocks.now.program from cycle self.old }
-        ensures { AreEventSums blocks.now.config blocks.now.program from (cycle + 1) self.new }
+        ensures kept { AreEventSums blocks.now.config blocks.now.program from (cycle + 1) self.new }
+        ensures answered { AreAnswered (size blocks.now.config) blocks.now.machine.events result }
     {
         let faults = blocks.stops_of_one().len();
-        self.add_events(blocks.events_of_one());
+        let answered = self.add_events(net, blocks.events_of_one());
         self.faults += faults as u64;
+        answered
     }
 
-    /// Events come to the sums, each at once to its own: most sums have none in a cycle.
-    fn add_events(&mut self, events: &[Event])
+    /// Events come to the sums, each at once to its own: most sums have none in a cycle. Gives the
+    /// processing elements to which replies came.
+    fn add_events(&mut self, net: Net, events: &[Event]) -> PeSet
         requires few { length events.now < 2 ^ 32 }
         requires room { CanTake (2 ^ 32) self.old }
-        ensures { AreWithEvents events.now self.old self.new }
+        ensures sums { AreWithEvents events.now self.old self.new }
+        ensures answered { AreAnswered (2 ^ net) events.now result }
     {
+        let mut answered = PeSet::empty();
         for event in events {
-            self.add(event);
+            self.add(event, net, &mut answered);
         }
+        answered
     }
 
-    /// One event more.
-    fn add(&mut self, event: &Event)
+    /// One event more. Puts the processing element of a delivery into a set, if the machine has it.
+    fn add(&mut self, event: &Event, net: Net, elements: &mut PeSet)
         requires { CanTake 1 self.old }
         ensures issued { self.new.issued ≡ self.old.issued + weight (is_issue event.now) }
         ensures answered { self.new.answered ≡ self.old.answered + weight (is_delivery event.now) }
@@ -98,9 +110,14 @@ impl EventSums {
             slice_index self.old.combined_in s + weight (is_combination_in s event.now) }
         ensures acts_of { (k : ℕ) → k < 64 → slice_index self.new.acts_of k ≡
             slice_index self.old.acts_of k + weight (is_act_of k event.now) }
+        ensures elements { (p : ℕ) → has_bit elements.new p ≡
+            has_bit elements.old p || (nat_lt p (2 ^ net) && is_delivery_to p event.now) }
     {
         match *event {
-            Event::Delivered(_) => self.answered += 1,
+            Event::Delivered(reply) => {
+                self.answered += 1;
+                add_element(elements, net, reply.pe);
+            }
             Event::Served { module, .. } => {
                 self.acts += 1;
                 count_at(&mut self.acts_of, module);
@@ -111,5 +128,16 @@ impl EventSums {
             }
             Event::Issued { .. } => self.issued += 1,
         }
+    }
+}
+
+/// Puts a processing element into a set, if the machine has it.
+#[inline(always)]
+fn add_element(elements: &mut PeSet, net: Net, pe: u32)
+    ensures { (p : ℕ) → has_bit elements.new p ≡
+        has_bit elements.old p || (nat_lt p (2 ^ net) && (pe == p)) }
+{
+    if pe < net.size() {
+        elements.insert(pe);
     }
 }

@@ -7,6 +7,7 @@ ghost use Rattle.ultra_model.specs.Machine.{is_quiet};
 ghost use Rattle.ultra_model.specs.Trace.{by_number};
 ghost use Rattle.ultra_trace_alone.specs.declared.fault.RunFault.TheVariants.{NoMemory, NoThread};
 ghost use Rattle.ultra_trace_alone.specs.Faults.{sink_faults};
+ghost use Rattle.ultra_measure.specs.Nets.{IsNetOf};
 ghost use Rattle.ultra_measure.specs.Rows.{row_text};
 ghost use Rattle.ultra_measure.specs.Running.{AreAfter, IsOn, IsWindowRun};
 ghost use Rattle.ultra_measure.specs.Texts.{end_if, HasWindows, measured, window_of, window_count};
@@ -21,6 +22,8 @@ use ultra_isa::Program;
 use ultra_latency::OpenTable;
 use ultra_model::{Config, MOST_CYCLES};
 use ultra_msg::{Sink, SinkFault};
+use ultra_route::Net;
+use ultra_topology::is_small;
 use ultra_trace_alone::RunFault;
 
 /// How the measures of a run are written.
@@ -165,20 +168,43 @@ pub(crate) struct WindowRun {
     pub(crate) ended: Option<bool>,
 }
 
-/// Makes the cycles of a window, from a cycle on: all, or fewer where the run ends.
+/// Makes the cycles of a window, from a cycle on: all, or fewer where the run ends. Small machines
+/// use a specialised copy.
 fn run_window(blocks: &mut Blocks, table: &mut OpenTable, from: u32, every: u32) -> WindowRun
     requires some { 1 ≤ every }
     requires start { IsOn blocks.old.config blocks.old.program from blocks.old table.old }
     ensures { IsWindowRun blocks.old.config blocks.old.program from every blocks.new table.new
         result }
 {
+    let net = net_of(blocks);
+    if is_small(net) {
+        run_window_sized::<true>(blocks, table, net, from, every)
+    } else {
+        run_window_sized::<false>(blocks, table, net, from, every)
+    }
+}
+
+/// The same for a machine with this network. The code for a `SMALL` one is compiled as a
+/// specialised copy.
+fn run_window_sized<const SMALL: bool>(
+    blocks: &mut Blocks,
+    table: &mut OpenTable,
+    net: Net,
+    from: u32,
+    every: u32,
+) -> WindowRun
+    requires some { 1 ≤ every }
+    requires net { IsNetOf SMALL net blocks.old.config }
+    requires start { IsOn blocks.old.config blocks.old.program from blocks.old table.old }
+    ensures { IsWindowRun blocks.old.config blocks.old.program from every blocks.new table.new
+        result }
+{
     let most = blocks.config().cycles();
     let end = from + every.min(most - from);
-    let net = net_of(blocks);
     let mut window = Window::new(net, from);
     for cycle in from..end {
         blocks.cycle();
-        window.note_cycle(table, blocks, cycle);
+        window.note_cycle::<SMALL>(table, blocks, net, cycle);
         let to = cycle + 1;
         let ended = end_of(blocks, to == most);
         if ended.is_some() {

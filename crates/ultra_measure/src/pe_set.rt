@@ -24,6 +24,13 @@ impl Model for PeSet {
 }
 
 impl PeSet {
+    /// No processing element.
+    pub(crate) fn empty() -> PeSet
+        ensures { (k : ℕ) → has_bit result k ≡ false }
+    {
+        PeSet { bits: 0 }
+    }
+
     /// Those below a number.
     pub(crate) fn below(count: u32) -> PeSet
         requires some { 1 ≤ count }
@@ -32,6 +39,16 @@ impl PeSet {
     {
         PeSet {
             bits: u64::MAX >> (64 - count),
+        }
+    }
+
+    /// Those of two sets.
+    #[inline(always)]
+    pub(crate) fn union(self, other: PeSet) -> PeSet
+        ensures { (k : ℕ) → has_bit result k ≡ has_bit self k || has_bit other k }
+    {
+        PeSet {
+            bits: self.bits | other.bits,
         }
     }
 

@@ -3,8 +3,8 @@
 ghost use Rattle.std.specs.Prelude.{◌≡◌, ◌+◌, ◌-◌, ◌*◌, ◌^◌, ◌<◌, ◌≤◌, max, true};
 ghost use Rattle.ultra_model.specs.Machine.{size};
 ghost use Rattle.ultra_model.specs.Balance.{total};
-ghost use Rattle.ultra_topology.specs.Numbers.{IsSmall};
 ghost use Rattle.ultra_measure.specs.Held.{AreUnitsWith, full_at, held_at, is_full, places_for};
+ghost use Rattle.ultra_measure.specs.Nets.{IsNetOf};
 ghost use Rattle.ultra_measure.specs.Window.{greatest};
 
 use ultra_block::{Blocks, Held};
@@ -28,12 +28,14 @@ pub(crate) struct Depth {
 #[inline(always)]
 pub(crate) fn depth_of_stage<const SMALL: bool>(
     blocks: &Blocks,
+    net: Net,
     held: Held,
     holders: &UnitSet,
     stage: u32,
 ) -> Depth
+    requires one { blocks.now.count ≡ 1 }
+    requires net { IsNetOf SMALL net blocks.now.config }
     requires stage { stage < blocks.now.config.stages }
-    requires small { SMALL ≡ true → IsSmall blocks.now.config.stages }
     requires holders { AreUnitsWith blocks.now held holders.now }
     ensures sum { result.sum ≡
         total (size blocks.now.config) (held_at held stage blocks.now.machine) }
@@ -42,13 +44,12 @@ pub(crate) fn depth_of_stage<const SMALL: bool>(
     ensures full { result.full ≡
         total (size blocks.now.config) (full_at blocks.now.config held stage blocks.now.machine) }
 {
-    let net = net_of(blocks);
     let places = places_of(blocks, held);
     let mut sum: u32 = 0;
     let mut most: u32 = 0;
     let mut full: u32 = 0;
     for switch in switches_of::<SMALL>(net, holders, stage) {
-        let here = depth_of_switch(blocks, held, places, stage, switch);
+        let here = depth_of_switch(blocks, net, held, places, stage, switch);
         sum += here.sum;
         most = most.max(here.most);
         full += here.full;
@@ -58,7 +59,16 @@ pub(crate) fn depth_of_stage<const SMALL: bool>(
 
 /// The same of both ports of a switch.
 #[inline(always)]
-fn depth_of_switch(blocks: &Blocks, held: Held, places: u32, stage: u32, switch: u32) -> Depth
+fn depth_of_switch(
+    blocks: &Blocks,
+    net: Net,
+    held: Held,
+    places: u32,
+    stage: u32,
+    switch: u32,
+) -> Depth
+    requires one { blocks.now.count ≡ 1 }
+    requires net { net ≡ blocks.now.config.stages }
     requires stage { stage < blocks.now.config.stages }
     requires switch { switch < 2 ^ (blocks.now.config.stages - 1) }
     requires places { places ≡ places_for blocks.now.config held }
@@ -71,9 +81,10 @@ fn depth_of_switch(blocks: &Blocks, held: Held, places: u32, stage: u32, switch:
         full_at blocks.now.config held stage blocks.now.machine (2 * switch + 1) }
     ensures few { (result.sum ≤ 128) × (result.full ≤ 2) }
 {
-    let _few = net_of(blocks);
-    let one = held_at_position(blocks, held, stage, 2 * switch);
-    let two = held_at_position(blocks, held, stage, 2 * switch + 1);
+    // for the prover: there are at most 64 positions, two for each switch
+    let _size = net.size();
+    let one = held_at_position(blocks, net, held, stage, 2 * switch);
+    let two = held_at_position(blocks, net, held, stage, 2 * switch + 1);
     Depth {
         sum: one + two,
         most: one.max(two),
@@ -107,7 +118,9 @@ fn count_if_full(places: u32, held: u32) -> u32
 
 /// How much the queue, or the wait buffer, at a position of a stage holds of a kind.
 #[inline(always)]
-fn held_at_position(blocks: &Blocks, held: Held, stage: u32, position: u32) -> u32
+fn held_at_position(blocks: &Blocks, net: Net, held: Held, stage: u32, position: u32) -> u32
+    requires one { blocks.now.count ≡ 1 }
+    requires net { net ≡ blocks.now.config.stages }
     requires stage { stage < blocks.now.config.stages }
     requires position { position < 2 ^ blocks.now.config.stages }
     ensures value { result ≡ held_at held stage blocks.now.machine position }
@@ -116,9 +129,9 @@ fn held_at_position(blocks: &Blocks, held: Held, stage: u32, position: u32) -> u
     let _most_requests = blocks.config().request_places();
     let _most_replies = blocks.config().reply_places();
     let count = match held {
-        Held::Request => blocks.lane(stage, position).len(),
-        Held::Record => blocks.lane(stage, position).record_count(),
-        Held::Reply => blocks.reply_queue(stage, position).len(),
+        Held::Request => blocks.lane_of_one(net, stage, position).len(),
+        Held::Record => blocks.lane_of_one(net, stage, position).record_count(),
+        Held::Reply => blocks.reply_queue_of_one(net, stage, position).len(),
     };
     count as u32
 }

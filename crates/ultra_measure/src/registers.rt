@@ -5,50 +5,24 @@ ghost use Rattle.ultra_model.specs.Machine.{size};
 ghost use Rattle.ultra_model.specs.Balance.{total};
 ghost use Rattle.ultra_topology.specs.Numbers.{IsSmall, module_number};
 ghost use Rattle.ultra_holders.specs.Holders.{numbers_in};
-ghost use Rattle.ultra_measure.specs.Held.{held_in_module, waiting_in, waiting_out};
+ghost use Rattle.ultra_measure.specs.Held.{held_in_module};
+ghost use Rattle.ultra_measure.specs.Nets.{IsNetOf};
 
-use crate::queues::net_of;
 use ultra_block::{Blocks, Held};
 use ultra_holders::modules_in;
 use ultra_route::Net;
-use ultra_topology::{UnitSet, is_small};
+use ultra_topology::UnitSet;
 
-/// How many modules hold a request that waits to be served.
+/// How many modules hold something of a kind. Each kind uses a specialised copy.
 #[inline(always)]
-pub(crate) fn inputs_now(blocks: &Blocks) -> u32
-    requires { blocks.now.count ≡ 1 }
-    ensures value { result ≡ total (size blocks.now.config) (waiting_in blocks.now.machine) }
-    ensures few { result ≤ 64 }
-{
-    modules_that_hold(blocks, Held::Request)
-}
-
-/// How many modules hold a reply that waits to leave.
-#[inline(always)]
-pub(crate) fn outputs_now(blocks: &Blocks) -> u32
-    requires { blocks.now.count ≡ 1 }
-    ensures value { result ≡ total (size blocks.now.config) (waiting_out blocks.now.machine) }
-    ensures few { result ≤ 64 }
-{
-    modules_that_hold(blocks, Held::Reply)
-}
-
-/// How many modules hold something of a kind. Small machines use a specialised copy, and so does
-/// each kind.
-#[inline(always)]
-fn modules_that_hold(blocks: &Blocks, held: Held) -> u32
-    requires { blocks.now.count ≡ 1 }
+pub(crate) fn modules_that_hold<const SMALL: bool>(blocks: &Blocks, net: Net, held: Held) -> u32
+    requires one { blocks.now.count ≡ 1 }
+    requires net { IsNetOf SMALL net blocks.now.config }
     ensures value { result ≡
         total (size blocks.now.config) (held_in_module held blocks.now.machine) }
     ensures few { result ≤ 64 }
 {
-    let net = net_of(blocks);
-    let holders = blocks.holding_of_one(held);
-    if is_small(net) {
-        count_modules::<true>(net, holders)
-    } else {
-        count_modules::<false>(net, holders)
-    }
+    count_modules::<SMALL>(net, blocks.holding_of_one(held))
 }
 
 /// How many modules are in a set.

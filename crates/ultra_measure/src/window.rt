@@ -5,11 +5,12 @@ ghost use Rattle.ultra_isa.specs.declared.Instr.{Instr as InstrOf};
 ghost use Rattle.ultra_model.specs.Machine.{Settings};
 ghost use Rattle.ultra_latency.specs.Open.{open_rows};
 ghost use Rattle.ultra_measure.specs.Kept.{AreLatencies, IsAfterCycle, IsKept};
+ghost use Rattle.ultra_measure.specs.Nets.{IsNetOf};
 
 use crate::depths::Depths;
 use crate::elements::ElementSums;
 use crate::happened::EventSums;
-use crate::registers::{inputs_now, outputs_now};
+use crate::registers::modules_that_hold;
 use ultra_block::{Blocks, Held};
 use ultra_latency::{Latencies, OpenTable, law_of_few_events, law_of_open_requests};
 use ultra_route::Net;
@@ -63,8 +64,15 @@ impl Window {
 
     /// A cycle was made: the machine is now as after it. `table` has the open requests, which go on
     /// with it.
-    pub(crate) fn note_cycle(&mut self, table: &mut OpenTable, blocks: &Blocks, cycle: u32)
+    pub(crate) fn note_cycle<const SMALL: bool>(
+        &mut self,
+        table: &mut OpenTable,
+        blocks: &Blocks,
+        net: Net,
+        cycle: u32,
+    )
         requires one { blocks.now.count ≡ 1 }
+        requires net { IsNetOf SMALL net blocks.now.config }
         requires run { IsAfterCycle cycle blocks.now }
         requires order { self.old.from ≤ cycle }
         requires early { cycle ≤ 2 ^ 20 }
@@ -80,21 +88,26 @@ impl Window {
         // for the prover: how many events a cycle has
         law_of_few_events(blocks.config());
         let from = self.from;
-        self.events.note_cycle(blocks, from, cycle);
+        let answered = self.events.note_cycle(blocks, net, from, cycle);
         note_latencies(&mut self.latencies, table, blocks, from, cycle);
-        self.elements.note_cycle(blocks, from, cycle);
-        let inputs = inputs_now(blocks);
+        self.elements
+            .note_cycle::<SMALL>(blocks, net, from, cycle, answered);
+        let inputs = modules_that_hold::<SMALL>(blocks, net, Held::Request);
         self.inputs += u64::from(inputs);
-        let outputs = outputs_now(blocks);
+        let outputs = modules_that_hold::<SMALL>(blocks, net, Held::Reply);
         self.outputs += u64::from(outputs);
-        self.requests.note_cycle(blocks, Held::Request, from, cycle);
-        self.replies.note_cycle(blocks, Held::Reply, from, cycle);
-        self.records.note_cycle(blocks, Held::Record, from, cycle);
+        self.requests
+            .note_cycle::<SMALL>(blocks, net, Held::Request, from, cycle);
+        self.replies
+            .note_cycle::<SMALL>(blocks, net, Held::Reply, from, cycle);
+        self.records
+            .note_cycle::<SMALL>(blocks, net, Held::Record, from, cycle);
     }
 }
 
 /// The latencies of a cycle's deliveries come to those of the window, and the open requests go on
 /// with the cycle.
+#[inline(always)]
 fn note_latencies(
     latencies: &mut Latencies,
     table: &mut OpenTable,

@@ -12,11 +12,11 @@ use Rattle.ultra_measure.proofs.elements.pending_in.Goals as goal
 pub loop-pe-init : goal.loop-pe-init
 loop-pe-init g c = none_counted (ap holders_left c.into_iter-pe-iterator.ensures.into_iter_gives ∙ c.elements_in-pe-items.ensures)
 
-pub pending_of-here-requires : goal.pending_of-here-requires
-pending_of-here-requires g c =
+pub pending_of-here-requires-clause-pe : goal.pending_of-here-requires-clause-pe
+pending_of-here-requires-clause-pe g c =
     let d = c.args.net in
     let small = next_within c.args.holders.now (element_number d 0) (2 ^ d) c.loop-pe.invariant (rw c.in-Some.is at c.next.ensures.steps) in
-    rw (← c.requires.net) small
+    rw (← c.requires.net.is) small
 
 pub overflow_add-sum : goal.overflow_add-sum
 overflow_add-sum g c =
@@ -38,7 +38,7 @@ returns g c =
     let few = few_pass (λ k. has_unit units (element_number d 0 + k)) 0 (2 ^ d) in
     let parts = sym (length-append c.loop-pe.yielded (holders_left c.loop-pe.pe-iterator)) ∙ ap length c.loop-pe.invariant.parts in
     record {
-      sum = sum_of_all c.loop-pe.invariant none.0 ∙ ap (λ n. added (pending b.machine) (numbers_in units (element_number n 0) (2 ^ n))) c.requires.net ∙ pending_sum b.config.stages b.machine units c.requires.holders;
-      most = most_of_all c.loop-pe.invariant none.0 ∙ ap (λ n. topmost (pending b.machine) (numbers_in units (element_number n 0) (2 ^ n))) c.requires.net ∙ pending_most b.config.stages b.machine units c.requires.holders;
+      sum = sum_of_all c.loop-pe.invariant none.0 ∙ ap (λ n. added (pending b.machine) (numbers_in units (element_number n 0) (2 ^ n))) c.requires.net.is ∙ pending_sum b.config.stages b.machine units c.requires.holders;
+      most = most_of_all c.loop-pe.invariant none.0 ∙ ap (λ n. topmost (pending b.machine) (numbers_in units (element_number n 0) (2 ^ n))) c.requires.net.is ∙ pending_most b.config.stages b.machine units c.requires.holders;
       few = omega (arith, few, parts, c.loop-pe.invariant.few, c.size-most.ensures.value, c.size-most.ensures.small);
     }

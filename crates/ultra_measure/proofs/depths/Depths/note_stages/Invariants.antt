@@ -6,7 +6,7 @@ use Rattle.ultra_measure.specs.Window.{greatest}
 use Rattle.ultra_measure.proofs.depths.Depths.note_stages.Given as goal
 
 abbrev pub invariant-loop-stage : goal.invariant-loop-stage
-invariant-loop-stage l =
+invariant-loop-stage g l =
     let c = l.blocks.config in
     let m = l.blocks.machine in
     let old = l.initial.self in

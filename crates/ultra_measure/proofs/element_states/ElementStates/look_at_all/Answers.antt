@@ -4,8 +4,8 @@ use Rattle.ultra_measure.specs.PeSet.{IsTaken}
 use Rattle.ultra_measure.proofs.Known.{one_looked_at, left_within, taken_small}
 use Rattle.ultra_measure.proofs.element_states.ElementStates.look_at_all.Goals as goal
 
-pub look_at-requires : goal.look_at-requires
-look_at-requires c =
+pub look_at-requires-clause-pe : goal.look_at-requires-clause-pe
+look_at-requires-clause-pe c =
     let b = c.args.blocks.now in
     let is : IsTaken c.in-Some.pe c.due.left c.take_first.new.self = rw c.in-Some.is at c.take_first.ensures.some in
     taken_small b.config b.program b.machine _ _ _ c.due.invariant.1 is

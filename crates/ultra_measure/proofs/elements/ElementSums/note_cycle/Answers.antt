@@ -8,16 +8,16 @@ use Rattle.ultra_measure.proofs.Known.{are_sums, seen_after}
 use Rattle.ultra_measure.proofs.elements.ElementSums.note_cycle.Goals as goal
 
 pub returns : goal.returns
-returns c =
+returns g c =
     let b = c.args.blocks.now in
     let old = c.requires.kept in
     let from = c.args.from in
     let to = c.args.cycle in
     let s = c.note_cycle.new.self in
     let known = c.note_cycle.ensures in
-    let net = c.net_of-net.ensures in
+    let net = c.requires.net in
     let few : size b.config ≤ 64 = omega (arith, net.even, net.few) in
-    let pending_now = c.pending_now-pending.ensures in
+    let pending_now = c.pending_in-pending.ensures in
     let sums = are_sums b.config b.program b.machine s known few in
     let all = c.sum-all.ensures in
     record {

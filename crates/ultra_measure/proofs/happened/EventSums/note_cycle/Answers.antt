@@ -5,8 +5,8 @@ use Rattle.ultra_measure.proofs.Events.{count_small}
 use Rattle.ultra_measure.proofs.Keeping.{sum_goes_on}
 use Rattle.ultra_measure.proofs.happened.EventSums.note_cycle.Goals as goal
 
-pub add_events-requires-clause-room : goal.add_events-requires-clause-room
-add_events-requires-clause-room c =
+pub add_events-answered-requires-clause-room : goal.add_events-answered-requires-clause-room
+add_events-answered-requires-clause-room c =
     let old = c.requires.kept in
     let fits = c.ranges.cycle.fits in
     record {
@@ -18,15 +18,15 @@ add_events-requires-clause-room c =
       acts_of = λ s h. omega (arith, (old.acts_of s h).small, fits);
     }
 
-pub returns : goal.returns
-returns c =
+pub returns-clause-kept : goal.returns-clause-kept
+returns-clause-kept c =
     let b = c.args.blocks.now in
     let old = c.requires.kept in
     let from = c.args.from in
     let to = c.args.cycle in
     let es = c.events_of_one.result.now in
     let events = c.events_of_one.ensures in
-    let now = c.add_events.ensures in
+    let now = c.add_events-answered.ensures.sums in
     record {
       issued = sum_goes_on b.config b.program from to c.requires.order b.machine c.requires.run (λ m. count is_issue m.events) old.issued (ap (count is_issue) events) (omega (arith, count_small is_issue es, ap length events, c.requires.few)) now.issued;
       answered = sum_goes_on b.config b.program from to c.requires.order b.machine c.requires.run (λ m. count is_delivery m.events) old.answered (ap (count is_delivery) events) (omega (arith, count_small is_delivery es, ap length events, c.requires.few)) now.answered;

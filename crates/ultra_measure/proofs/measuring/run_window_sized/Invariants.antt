@@ -2,10 +2,10 @@ use Rattle.std.proofs.Common.{◌≡◌, ◌<◌}
 use Rattle.ultra_trace_alone.proofs.Count.{IsBusy}
 use Rattle.ultra_measure.specs.Kept.{IsKept}
 use Rattle.ultra_measure.specs.Running.{AreAfter}
-use Rattle.ultra_measure.proofs.measuring.run_window.Given as goal
+use Rattle.ultra_measure.proofs.measuring.run_window_sized.Given as goal
 
 abbrev pub invariant-loop-cycle : goal.invariant-loop-cycle
-invariant-loop-cycle l =
+invariant-loop-cycle g l =
     let c = l.initial.blocks.config in
     let program = l.initial.blocks.program in
     record {
