@@ -84,6 +84,7 @@ def prove(listed, name, jobs, gives_way=False):
     words = words_for(listed, name, jobs, library)
     build = build_program if is_program(name) else build_library
     is_well, said = build(folder, product(name), words, gives_way)
+    is_well = is_well and not may_abort(said)
     if is_well and has_tests(name):
         tests = folder / "out" / f"{name}_tests"
         is_well, said = build_program(folder, tests, [*words, "--test"], gives_way)
@@ -92,6 +93,11 @@ def prove(listed, name, jobs, gives_way=False):
     if is_well:
         stamp.write_text(now)
     return is_well, said
+
+
+def may_abort(said):
+    """Whether a function may end the process, as only one of a test may: it is proved up to that alone."""
+    return " may-abort=" in said
 
 
 def build_library(folder, built, words, gives_way):
