@@ -38,7 +38,7 @@
                 const trace = new Trace(bytes);
                 const history = new History(trace);
                 history.advance(bytes.length < SMALL_BYTES ? trace.count : 200);
-                Object.assign(this, { name, trace, history, cycle: 0, selected: null, address });
+                Object.assign(this, { name, trace, history, cycle: 0, selected: null, hasAll: false, address });
                 this.fixShape();
             } catch (fault) {
                 this.refuse(name, fault);
@@ -72,6 +72,7 @@
             byId("opened").hidden = true;
             byId("refusal").hidden = true;
             byId("facts").textContent = "";
+            byId("progress").textContent = "";
         }
 
         refuse(name, fault) {
@@ -88,7 +89,7 @@
 
         /** Works out the history in slices, so that the page answers meanwhile. */
         workOn() {
-            viewer.showFacts(this);
+            viewer.showProgress(this);
             this.follow(this.address);
             if (!this.trace) {
                 return;
@@ -98,18 +99,47 @@
                 this.show(0);
                 return;
             }
-            this.work = setTimeout(() => {
-                const until = performance.now() + SLICE_MILLISECONDS;
-                try {
-                    while (!this.history.isDone && performance.now() < until) {
-                        this.history.advance(SLICE_CYCLES);
-                    }
-                } catch (fault) {
-                    this.refuse(this.name, fault);
-                    return;
+            this.work = setTimeout(() => this.workSlice());
+        }
+
+        /** Works out a slice. What is shown is shown again as soon as more of it is known. */
+        workSlice() {
+            const unknown = this.unknownParts();
+            const until = performance.now() + SLICE_MILLISECONDS;
+            try {
+                while (!this.history.isDone && performance.now() < until) {
+                    this.history.advance(SLICE_CYCLES);
                 }
+            } catch (fault) {
+                this.refuse(this.name, fault);
+                return;
+            }
+            if (this.unknownParts() < unknown) {
+                this.show(0);
+            }
+            if (this.trace) {
                 this.workOn();
-            });
+            }
+        }
+
+        /** How much of what is shown isn't worked out yet: its cycle, and its request's answer. */
+        unknownParts() {
+            const isAhead = this.history.cycles <= this.cycle;
+            const isOpen = this.selected?.request?.answered === null;
+            return Number(isAhead) + Number(isOpen);
+        }
+
+        /**
+         * Goes where a link leads on the page that is open. A story that it doesn't name is closed.
+         */
+        goToLink(address) {
+            const { isFolded } = address;
+            Object.assign(this, { isFolded, selected: null, address });
+            byId("folded").checked = isFolded;
+            this.show(0);
+            if (this.trace) {
+                this.follow(address);
+            }
         }
 
         /** Goes where an address leads. What isn't worked out yet is tried again later. */
@@ -137,6 +167,7 @@
         goTo(cycle, duration = this.duration()) {
             const isNext = cycle === this.cycle + 1;
             this.cycle = Math.max(0, Math.min(this.trace.count - 1, cycle));
+            this.hasAll = false;
             this.show(isNext ? duration : 0);
         }
 
@@ -231,11 +262,14 @@
             };
         }
 
-        /** Whether a message that was there after a cycle carries a request that is shown. */
+        /**
+         * Whether a message that was there after a cycle carries a request that is shown, as far as
+         * that is worked out.
+         */
         isSelected(message, after) {
             const { request, act } = this.selected ?? {};
             const shown = act ? viewer.leavesOf(act.tree) : [request].filter(Boolean);
-            const isOpen = (it) => it.issued <= after && (it.answered === null || after < it.answered);
+            const isOpen = (it) => it.issued <= after && after < (it.answered ?? this.history.cycles);
             return shown.filter(isOpen).some((it) => isOf(message, it) || isOf(message, viewer.carrierAt(it, after)));
         }
 

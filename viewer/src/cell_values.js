@@ -32,16 +32,23 @@
         return history.sortedCells;
     }
 
-    /** A cell on which nobody acts. */
+    /**
+     * A cell on which nobody has acted. Only when all is worked out it is known that nobody does
+     * later, so that the cell has the value of the end from the beginning.
+     */
     function untouched(history, cell) {
-        return { first: history.endValues.get(cell), acts: [] };
+        return { first: history.isDone ? history.endValues.get(cell) : undefined, acts: [] };
     }
 
     /**
      * The cells whose value after the cycle is known and isn't 0, by number. A cell on which nobody
-     * acts keeps the value of the end. One that is stored to first isn't known until then.
+     * acts keeps the value of the end. One that is stored to first isn't known until then. Nothing
+     * is known after a cycle that isn't worked out yet.
      */
     function cellsAt(history, cycle) {
+        if (cycle >= history.cycles) {
+            return [];
+        }
         const found = [];
         for (const cell of cellsOf(history)) {
             const { first, acts } = history.cells.get(cell) ?? untouched(history, cell);
@@ -54,5 +61,14 @@
         return found;
     }
 
-    Object.assign(viewer, { cellsAt });
+    /** What is said of a cycle after which no cell is known to have a value. */
+    function noCellsText(history, cycle) {
+        if (cycle >= history.cycles) {
+            return "Not worked out yet.";
+        }
+        const known = history.isDone ? "the trace says" : "the trace is worked out";
+        return `Every cell is 0, as far as ${known}.`;
+    }
+
+    Object.assign(viewer, { cellsAt, noCellsText });
 })((globalThis.viewer ??= {}));

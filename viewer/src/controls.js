@@ -132,16 +132,10 @@
         return acts[event.key.length === 1 ? event.key.toLowerCase() : event.key];
     }
 
-    /** Whether the element that has the focus uses the key itself. */
-    function isUsedBy(element, key) {
-        const isField = element.matches("input:not([type=checkbox]), select");
-        const isPressed = element.matches("button, summary, input[type=checkbox], label");
-        return isField || (isPressed && (key === " " || key === "Enter"));
-    }
-
     function connectKeys(app) {
         document.addEventListener("keydown", (event) => {
-            if (!app.trace || event.ctrlKey || event.metaKey || event.altKey || isUsedBy(event.target, event.key)) {
+            const isOfBrowser = event.ctrlKey || event.metaKey || event.altKey;
+            if (!app.trace || isOfBrowser || viewer.isOwnKey(event.target, event.key)) {
                 return;
             }
             const act = actOfKey(app, event);

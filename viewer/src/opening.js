@@ -4,6 +4,7 @@
     "use strict";
 
     const { App, byId } = viewer;
+    let openings = 0;
 
     /** The traces that `viewer/page` wrote into the page: their names and texts. */
     function tracesInPage() {
@@ -14,6 +15,16 @@
     }
 
     /**
+     * Begins an opening, and answers a test of whether it is still the newest. A large file may
+     * have been read only after another trace was chosen.
+     */
+    function beginOpening() {
+        openings += 1;
+        const number = openings;
+        return () => number === openings;
+    }
+
+    /**
      * Opens a file. One that is opened again stays at its cycle, and the first goes where the
      * address leads.
      */
@@ -21,18 +32,24 @@
         if (!file) {
             return;
         }
+        const isNewest = beginOpening();
         const isSame = !app.trace || app.name === file.name;
         const address = isSame ? viewer.readAddress(location.hash) : {};
         app.say(`Reading ${file.name} …`);
-        const complain = (error) => app.say(`${file.name} can't be read: ${error.message}`);
+        const complain = (error) => {
+            if (isNewest()) {
+                app.say(`${file.name} can't be read: ${error.message}`);
+            }
+        };
         const bytes = await file.arrayBuffer().catch(complain);
-        if (bytes) {
+        if (bytes && isNewest()) {
             app.isListed = false;
             app.open(file.name, new Uint8Array(bytes), address);
         }
     }
 
     function openListed(app, traces, name, address) {
+        beginOpening();
         const found = traces.find((it) => it.name === name) ?? traces[0];
         app.isListed = true;
         byId("traces").value = found.name;
@@ -67,7 +84,7 @@
         if (traces.length > 0 && (!app.trace || (address.trace && address.trace !== app.name))) {
             openListed(app, traces, address.trace, address);
         } else if (app.trace) {
-            app.follow(address);
+            app.goToLink(address);
         }
     }
 

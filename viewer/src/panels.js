@@ -3,7 +3,7 @@
 (function (viewer) {
     "use strict";
 
-    const { html, link, nameOf, operationText, answerText, placeText } = viewer;
+    const { html, link, nameOf, operationText, placeText } = viewer;
     /** Lists are shown up to these lengths, until all of them is asked for. */
     const MOST_SENTENCES = 60;
     const MOST_CELLS = 100;
@@ -74,11 +74,10 @@
 
     function requestPanel(element, request, view, app) {
         const act = viewer.actOf(request);
-        const value = answerText(request.value);
-        const answer = request.answered === null ? "It isn't answered in this trace." : `Its answer is ${value}.`;
+        const answer = viewer.answerSentence(view.history, request);
         const served = act
             ? link(`The act that served it, in cycle ${act.cycle}`, () => app.showAct(act))
-            : "It isn't served in this trace.";
+            : viewer.noActSentence(view.history);
         const rows = viewer.storyOf(view.history, request).map((it) => storyRow(it, app));
         element.replaceChildren(
             html("h2", {}, `Request ${nameOf(request)}`),
@@ -116,7 +115,7 @@
 
     function cellsPanel(element, cells, app) {
         const items = cells.slice(0, app.hasAll ? cells.length : MOST_CELLS).map(cellItem);
-        const list = listOr("Every cell is 0, as far as the trace says.", items, { class: "cells" });
+        const list = listOr(viewer.noCellsText(app.history, app.cycle), items, { class: "cells" });
         element.replaceChildren(list, ...more(cells.length - items.length, app));
     }
 

@@ -29,7 +29,12 @@
         start() {
             this.stop();
             const tick = () => {
-                if (this.step()) {
+                const isStep = this.step();
+                // a step that finds a fault closes the trace, which stops the player
+                if (!this.isPlaying) {
+                    return;
+                }
+                if (isStep) {
                     this.timer = setTimeout(tick, 1000 / this.cyclesPerSecond);
                 } else {
                     this.stop();

@@ -27,6 +27,13 @@
         showFacts(app);
     }
 
+    /** Sets a text where it differs: a screen reader may speak it each time that it is set. */
+    function setText(element, text) {
+        if (element.textContent !== text) {
+            element.textContent = text;
+        }
+    }
+
     function endingText(trace) {
         if (trace.cut) {
             const end = `The text was cut off after its line ${trace.cut.lines}.`;
@@ -36,14 +43,17 @@
         return trace.end.isQuiet ? "It ends quiet." : "It ends at its limit on cycles.";
     }
 
-    function showFacts(app) {
-        const { trace, history } = app;
+    function showFacts({ name, trace }) {
         const cycles = `${trace.count} ${trace.count === 1 ? "cycle" : "cycles"}`;
-        const part = Math.floor((100 * history.cycles) / trace.count);
-        const far = ` Stories and events are worked out up to cycle ${history.cycles} (${part} %).`;
-        const state = `${endingText(trace)}${history.isDone ? "" : far}`;
-        byId("facts").textContent = `${app.name}: ${cycles}, ${trace.net.size} PEs. ${state}`;
+        setText(byId("facts"), `${name}: ${cycles}, ${trace.net.size} PEs. ${endingText(trace)}`);
         byId("facts").classList.toggle("cut", trace.cut !== null);
+    }
+
+    /** How far a long trace is worked out. It isn't spoken, since it changes all the time. */
+    function showProgress({ trace, history }) {
+        const part = Math.floor((100 * history.cycles) / trace.count);
+        const far = `Stories, events and cells are worked out up to cycle ${history.cycles} (${part} %).`;
+        byId("progress").textContent = history.isDone ? "" : far;
     }
 
     function showPlayer(app) {
@@ -61,8 +71,32 @@
         byId("cycle-name").textContent = cycle;
         const isFirst = cycle === 0;
         const isLast = cycle === trace.count - 1;
-        byId("first").disabled = byId("back").disabled = isFirst;
-        byId("last").disabled = byId("forward").disabled = isLast;
+        [byId("first"), byId("back")].forEach((it) => setDisabled(it, isFirst));
+        [byId("last"), byId("forward")].forEach((it) => setDisabled(it, isLast));
+    }
+
+    /** Marks a button that does nothing. The attribute `disabled` would take the focus from it. */
+    function setDisabled(button, isDisabled) {
+        button.setAttribute("aria-disabled", isDisabled);
+    }
+
+    function isVisible(element) {
+        return element.isConnected && element.closest("[hidden]") === null;
+    }
+
+    /**
+     * Replaces texts. Where this takes away the button that has the focus, the one with the same
+     * name gets it, or the picture. Else a reader by keyboard would begin at the top of the page.
+     */
+    function keepFocus(replace) {
+        const focused = document.activeElement;
+        const panel = focused?.closest("#story, #happenings, #cells");
+        replace();
+        if (panel && !isVisible(focused)) {
+            const buttons = [...panel.querySelectorAll("button")].filter(isVisible);
+            const same = buttons.find((it) => it.textContent === focused.textContent);
+            (same ?? byId("scroller")).focus({ preventScroll: true });
+        }
     }
 
     function showTexts(app, view) {
@@ -79,13 +113,15 @@
         byId("ending").hidden = app.cycle !== app.trace.count - 1 || !app.trace.end;
         const sentences = [...byId("happenings").querySelectorAll("li")].map((it) => it.textContent);
         const spoken = [viewer.movesText(view.step), ...sentences.slice(0, SPOKEN_SENTENCES)];
-        byId("announcement").textContent = `Cycle ${app.cycle}. ${spoken.join(" ")}`;
+        setText(byId("announcement"), `Cycle ${app.cycle}. ${spoken.join(" ")}`);
     }
 
     /** Draws what can be seen of the cycle that the page is at. */
     function draw(app, duration = 0) {
         const { picture, motion, cycle } = app;
         const isSelected = (it) => app.isSelected(it, cycle - 1);
+        // entries arrive only when the cycle is stepped to, not when it is drawn again
+        picture.element.classList.toggle("moving", duration > 0);
         picture.drawContent();
         motion.show(picture.layout, picture.view.step, duration, isSelected, picture.seen());
     }
@@ -100,7 +136,7 @@
         app.picture.show(view);
         draw(app, duration);
         showControls(app);
-        showTexts(app, view);
+        keepFocus(() => showTexts(app, view));
         showAddress(app);
     }
 
@@ -128,5 +164,5 @@
         }, ADDRESS_MILLISECONDS);
     }
 
-    Object.assign(viewer, { showTrace, showFacts, showPlayer, showCycle, chooseEvents, draw });
+    Object.assign(viewer, { showTrace, showProgress, showPlayer, showCycle, chooseEvents, draw });
 })((globalThis.viewer ??= {}));

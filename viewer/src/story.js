@@ -87,9 +87,9 @@
         return place !== null && viewer.kindOf(place) === kind;
     }
 
-    /** The last cycle of a story: that of the answer, or the last of the trace. */
-    function lastCycleOf(trace, request) {
-        return request.answered ?? trace.count - 1;
+    /** The last cycle of a story: that of the answer, or the last that is worked out. */
+    function lastCycleOf(history, request) {
+        return request.answered ?? history.cycles - 1;
     }
 
     /**
@@ -99,7 +99,7 @@
     function storyOf(history, request) {
         const { trace } = history;
         const rows = [];
-        for (let number = request.issued; number <= lastCycleOf(trace, request); number++) {
+        for (let number = request.issued; number <= lastCycleOf(history, request); number++) {
             const where = number === request.answered ? null : whereIs(trace, request, number);
             const happenings = happeningsOf(history, request, number);
             const last = rows.at(-1);
@@ -116,8 +116,27 @@
         return rows;
     }
 
-    /** The request of a PE for a cell that is open after a cycle, or null. A PE has at most one. */
+    /** What a request is answered, in a sentence, or why no answer is known. */
+    function answerSentence(history, { answered, value }) {
+        if (answered !== null) {
+            return `Its answer is ${viewer.answerText(value)}.`;
+        }
+        return history.isDone ? "It isn't answered in this trace." : "Its answer isn't worked out yet.";
+    }
+
+    /** Why no act is known that served a request. */
+    function noActSentence(history) {
+        return history.isDone ? "It isn't served in this trace." : "Its act isn't worked out yet.";
+    }
+
+    /**
+     * The request of a PE for a cell that is open after a cycle, or null. A PE has at most one.
+     * Which one it is isn't known for a cycle that isn't worked out yet.
+     */
     function requestAt(history, { pe, cell }, cycle) {
+        if (cycle >= history.cycles) {
+            return null;
+        }
         const list = history.requestsOfPe[pe] ?? [];
         let low = 0;
         let high = list.length;
@@ -138,5 +157,5 @@
         return null;
     }
 
-    Object.assign(viewer, { routeOf, whereIs, carrierAt, storyOf, requestAt });
+    Object.assign(viewer, { routeOf, whereIs, carrierAt, storyOf, answerSentence, noActSentence, requestAt });
 })((globalThis.viewer ??= {}));

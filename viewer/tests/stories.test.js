@@ -3,10 +3,17 @@
 
 const test = require("node:test");
 const assert = require("node:assert/strict");
-const { viewer, example, exampleTraces, textOf, historyOf } = require("./support.js");
+const { viewer, example, exampleTraces, textOf, traceOf, historyOf } = require("./support.js");
 
 function historyOfExample(name) {
     return historyOf(textOf(example(name), "expected"));
+}
+
+/** The history of an example of which so many cycles are worked out. */
+function historyUpTo(name, cycles) {
+    const history = new viewer.History(traceOf(textOf(example(name), "expected")));
+    history.advance(cycles);
+    return history;
 }
 
 function rowsOf(history, pe, number) {
@@ -38,6 +45,24 @@ test("the story of a request that waits in two wait buffers' trees", () => {
     ]);
 });
 
+test("a story goes on up to the last cycle that is worked out", () => {
+    const history = historyUpTo("two_level_tree", 6);
+    assert.deepEqual(rowsOf(history, 1, 0).map(([cycle, until]) => [cycle, until]), [[2, 2], [3, 3], [4, 5]]);
+    history.advance(1);
+    assert.deepEqual(rowsOf(history, 1, 0).at(-1), [6, 6, "wait 0 2: 3@0 same 1 plus 4", "module 0 serves it"]);
+});
+
+test("an answer or an act that isn't worked out yet isn't said to be missing in the trace", () => {
+    const said = (history) => [viewer.answerSentence(history, history.requestsOfPe[0][0]), viewer.noActSentence(history)];
+    const history = historyUpTo("two_level_tree", 6);
+    assert.deepEqual(said(history), ["Its answer isn't worked out yet.", "Its act isn't worked out yet."]);
+    history.advance(Infinity);
+    assert.equal(said(history)[0], "Its answer is 3.");
+    const text = textOf(example("two_level_tree"), "expected");
+    const cut = historyOf(text.slice(0, text.indexOf("cycle 6")));
+    assert.deepEqual(said(cut), ["It isn't answered in this trace.", "It isn't served in this trace."]);
+});
+
 test("in every example each request is somewhere in each cycle from its issue to its answer, and gets the answer of the order", () => {
     for (const folder of exampleTraces()) {
         const history = historyOf(textOf(folder, "expected"));
@@ -63,6 +88,15 @@ test("a message names the request that was open, also where a PE issues again in
     assert.equal(viewer.requestAt(history, message, 13), null);
 });
 
+test("a message names no request where the history isn't worked out yet", () => {
+    const history = historyUpTo("open_cell_stall", 5);
+    const message = { pe: 0, cell: 0 };
+    assert.equal(viewer.requestAt(history, message, 4).number, 0);
+    assert.deepEqual([5, 8].map((it) => viewer.requestAt(history, message, it)), [null, null]);
+    history.advance(4);
+    assert.equal(viewer.requestAt(history, message, 8).number, 1);
+});
+
 test("next acts, combinations, and events of a cell and of a PE", () => {
     const history = historyOfExample("wait_buffer_full");
     const acts = viewer.cyclesOf(history, "act");
@@ -79,8 +113,11 @@ test("a fault is an event of its PE", () => {
     assert.ok(viewer.cyclesOf(historyOfExample("address_fault"), "pe", 1).includes(3));
 });
 
+function cells(history, cycle) {
+    return viewer.cellsAt(history, cycle).map((it) => [it.cell, it.value]);
+}
+
 test("the cells that aren't 0, cycle by cycle", () => {
-    const cells = (history, cycle) => viewer.cellsAt(history, cycle).map((it) => [it.cell, it.value]);
     const wraparound = historyOfExample("wraparound");
     assert.deepEqual([0, 4, 5, 7].map((it) => cells(wraparound, it)), [[[0, 1]], [[0, 1]], [[0, 4294967295]], [[0, 4294967295]]]);
     const full = historyOfExample("wait_buffer_full");
@@ -90,6 +127,25 @@ test("the cells that aren't 0, cycle by cycle", () => {
         const { end, count } = history.trace;
         assert.deepEqual(cells(history, count - 1), end.cells.map((it) => [it.cell, it.value]), folder);
     }
+});
+
+test("a cell has no value where it isn't worked out yet, and no cell has the value of the end before its first act", () => {
+    const full = historyUpTo("wait_buffer_full", 6);
+    assert.deepEqual([4, 5, 6, 9].map((it) => cells(full, it)), [[], [[0, 2]], [], []]);
+    full.advance(1);
+    assert.deepEqual([5, 6, 7].map((it) => cells(full, it)), [[[0, 2]], [[0, 2], [2, 1]], []]);
+    const wraparound = historyUpTo("wraparound", 5);
+    assert.deepEqual(cells(wraparound, 4), []);
+    wraparound.advance(1);
+    assert.deepEqual(cells(wraparound, 4), [[0, 1]]);
+});
+
+test("where no cell is known to have a value it is said how far that is known", () => {
+    const history = historyUpTo("wait_buffer_full", 5);
+    assert.equal(viewer.noCellsText(history, 5), "Not worked out yet.");
+    assert.equal(viewer.noCellsText(history, 4), "Every cell is 0, as far as the trace is worked out.");
+    history.advance(Infinity);
+    assert.equal(viewer.noCellsText(history, 4), "Every cell is 0, as far as the trace says.");
 });
 
 test("the sentences of a cycle", () => {

@@ -45,6 +45,7 @@ module.exports = async (checks) => {
         await tab.evaluate("document.querySelector('#slider').focus()");
         await tab.press("ArrowLeft");
     }, 4);
+    await goesTo("key a while the slider has the focus", () => tab.press("a"), 6);
     await goesTo("the field for a cycle", async () => {
         await tab.enter("#cycle", 8);
     }, 8);
@@ -56,6 +57,16 @@ module.exports = async (checks) => {
         assert.equal((await tab.text("#play")).trim(), "❚❚ Pause");
         await tab.wait("viewer.app.cycle === 9 && !viewer.app.player.isPlaying");
         assert.equal((await tab.text("#play")).trim(), "▶ Play");
+    });
+
+    await checks.check("a button that leads to the last cycle keeps the focus there", async () => {
+        await tab.evaluate("viewer.app.goTo(8); document.querySelector('#forward').focus()");
+        await tab.press(" ");
+        assert.equal(await cycle(), 9);
+        await tab.press(" ");
+        assert.equal(await cycle(), 9);
+        const { id, disabled } = await tab.evaluate("({ id: document.activeElement.id, disabled: document.activeElement.ariaDisabled })");
+        assert.deepEqual([id, disabled], ["forward", "true"]);
     });
 
     await checks.check("a button that has the focus is pressed by space once", async () => {
@@ -91,6 +102,14 @@ module.exports = async (checks) => {
         assert.equal(await tab.evaluate("document.querySelectorAll('.traveller').length"), 4);
         await tab.wait("document.querySelectorAll('.traveller').length === 0", 5);
         assert.equal(await tab.evaluate("document.querySelectorAll('.moved').length"), 4);
+    });
+
+    await checks.check("entries that have arrived are drawn again without their motion", async () => {
+        await tab.evaluate("viewer.app.goTo(2)");
+        await tab.press("ArrowRight");
+        assert.ok((await tab.evaluate("document.getAnimations().length")) > 0);
+        await tab.evaluate("viewer.draw(viewer.app)");
+        assert.equal(await tab.evaluate("document.getAnimations().length"), 0);
     });
     await checks.checkQuiet("driving", tab);
 };

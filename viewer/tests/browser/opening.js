@@ -7,6 +7,15 @@ const path = require("node:path");
 const { PAGE } = require("./checks.js");
 const { example, textOf } = require("../support.js");
 
+/** Drops a text on the page that is read only after so many milliseconds. */
+function dropLate(name, text, milliseconds) {
+    return `{
+        const bytes = new TextEncoder().encode(${JSON.stringify(text)}).buffer;
+        const arrayBuffer = () => new Promise((resolve) => setTimeout(resolve, ${milliseconds}, bytes));
+        dispatchEvent(Object.assign(new Event("drop"), { dataTransfer: { files: [{ name: "${name}", arrayBuffer }] } }));
+    }`;
+}
+
 module.exports = async (checks) => {
     const tree = path.join(example("two_level_tree"), "expected");
 
@@ -30,6 +39,24 @@ module.exports = async (checks) => {
         await tab.choose(tree);
         await tab.wait("viewer.app.trace");
         assert.equal(await tab.text("#cycle-name"), "3");
+    });
+
+    await checks.check("a link on an open page sets what is shown, and closes a story that it doesn't name", async () => {
+        const tab = await checks.tabWithExample("two_level_tree", "#cycle=4&request=3.0");
+        await tab.evaluate("location.hash = '#cycle=2&view=folded'");
+        await tab.wait("viewer.app.cycle === 2 && viewer.app.isFolded");
+        assert.equal(await tab.evaluate("document.querySelector('#folded').checked"), true);
+        assert.equal(await tab.evaluate("document.querySelector('#story').hidden"), true);
+        await tab.evaluate("new Promise((it) => setTimeout(it, 400))");
+        assert.equal(await tab.evaluate("location.hash"), "#cycle=2&view=folded");
+    });
+
+    await checks.check("a file that is read late doesn't replace one that was dropped after it", async () => {
+        const tab = await checks.tab();
+        await tab.evaluate(`${dropLate("late", textOf(tree), 300)} ${dropLate("early", textOf(tree), 0)}`);
+        await tab.evaluate("new Promise((it) => setTimeout(it, 600))");
+        assert.match(await tab.text("#facts"), /^early: /);
+        await checks.checkQuiet("a file that is read late", tab);
     });
 
     await checks.check("a text that isn't a trace is refused with its line, and a good one opens after it", async () => {

@@ -37,6 +37,17 @@ module.exports = async (checks) => {
         assert.deepEqual(marked, ["req 0 2: 3@0 faa 6 *", "wait 0 2: 3@0 same 1 plus 4"]);
     });
 
+    await checks.check("a cycle of a story that is pressed keeps the focus, and Close gives it to the picture", async () => {
+        await tab.evaluate("[...document.querySelectorAll('.story button')].find((it) => it.textContent === '6').focus()");
+        await tab.press(" ");
+        assert.equal(await tab.evaluate("viewer.app.cycle"), 6);
+        assert.equal(await tab.evaluate("document.activeElement.textContent"), "6");
+        await tab.evaluate("document.querySelector('#close-story').focus()");
+        await tab.press(" ");
+        assert.equal(await tab.evaluate("document.querySelector('#story').hidden"), true);
+        assert.equal(await tab.evaluate("document.activeElement.id"), "scroller");
+    });
+
     await checks.check("the tree and the order of an act, by a click on it", async () => {
         await tab.evaluate("viewer.app.goTo(6)");
         await tab.clickOn(entry("act 0 2@0 faa 10 = 0 now 10"));
@@ -48,9 +59,10 @@ module.exports = async (checks) => {
         await tab.wait("location.hash === '#cycle=6&act=6.0'");
     });
 
-    await checks.check("a leaf of the tree leads to its request, and Escape closes the story", async () => {
+    await checks.check("a leaf of the tree leads to its request, and Escape in a field closes the story", async () => {
         await tab.clickOn("document.querySelector('.tree .leaf')");
         assert.equal(await tab.text("#story h2"), "Request 2.0");
+        await tab.evaluate("document.querySelector('#cycle').focus()");
         await tab.press("Escape");
         assert.equal(await tab.evaluate("document.querySelector('#story').hidden"), true);
     });
