@@ -2,6 +2,7 @@
 
 import concurrent.futures
 import os
+import re
 import shlex
 import subprocess
 import sys
@@ -14,6 +15,8 @@ from library.pieces import answer, write
 SCRIPT = Path(__file__).resolve().parent.parent / "piece"
 MOST_TASKS = 1000  # Slurm's own limit on an array is 1001 unless it is configured otherwise
 BETWEEN_LOOKS = 0.5
+# what sbatch says, also with --parsable or --clusters
+SUBMITTED = re.compile(r"^(?:Submitted batch job )?(\d+)(?:(?: on cluster |;)(\S+))?$", re.MULTILINE)
 
 
 class EngineFault(Exception):
@@ -46,9 +49,9 @@ def command_line(folder, name, ultra, hot_cells):
     return " ".join(it if it is name else shlex.quote(it) for it in command(folder, name, ultra, hot_cells))
 
 
-def run_engine(words, folder, pieces, progress):
-    """Runs an engine, and reports the pieces that are answered meanwhile. Its messages go into a file."""
-    waiting, log = list(pieces), folder / f"{words[0]}.log"
+def run_engine(words, folder, log, pieces, progress):
+    """Runs an engine, and reports the pieces that are answered meanwhile. Its messages go into the file `log`."""
+    waiting = list(pieces)
     with open(log, "w") as messages:
         try:
             engine = subprocess.Popen(words, cwd=folder, stdin=subprocess.DEVNULL, stdout=messages, stderr=subprocess.STDOUT)
@@ -89,19 +92,44 @@ def run_parallel(folder, pieces, ultra, hot_cells, workers, arguments, progress)
     """Hands the files of jobs to GNU parallel, which tries each three times. Its own options name the hosts."""
     one = command_line(folder, "{}", ultra, hot_cells)
     own = ["--jobs", str(workers), "--retries", "3", "--joblog", str(folder / "parallel.joblog")]
-    run_engine(["parallel", *own, *arguments, one, ":::", *(it.name for it in pieces)], folder, pieces, progress)
+    words = ["parallel", *own, *arguments, one, ":::", *(it.name for it in pieces)]
+    run_engine(words, folder, folder / "parallel.log", pieces, progress)
+
+
+def cancel(log):
+    """Takes an array off the cluster. Its number is in the log of `sbatch`."""
+    found = SUBMITTED.search(log.read_text(errors="replace")) if log.is_file() else None
+    if found is None:
+        print(f"study: {log} names no job: squeue shows whether one is still on the cluster", file=sys.stderr)
+        return
+    job, cluster = found.groups()
+    words = ["scancel", *([f"--clusters={cluster}"] if cluster else []), job]
+    try:
+        is_cancelled = subprocess.run(words, stdin=subprocess.DEVNULL, capture_output=True).returncode == 0
+    except OSError:
+        is_cancelled = False
+    if not is_cancelled:
+        print(f"study: {' '.join(words)} failed: the job may still be on the cluster", file=sys.stderr)
 
 
 def run_slurm(folder, pieces, ultra, hot_cells, workers, arguments, progress):
     """Hands the files of jobs to Slurm as array jobs, and waits for them. Slurm itself decides how many run at once."""
     one = command_line(folder, '"${names[SLURM_ARRAY_TASK_ID]}"', ultra, hot_cells)
-    for index in range(0, len(pieces), MOST_TASKS):
+    for array, index in enumerate(range(0, len(pieces), MOST_TASKS)):
         part = pieces[index:index + MOST_TASKS]
         names = " ".join(it.name for it in part)
         lines = ["#!/bin/bash", f"names=({names})", 'echo "node $SLURMD_NODENAME"', f"exec {one}"]
-        write(folder / "array.sh", "\n".join(lines) + "\n")
-        own = ["--wait", f"--array=0-{len(part) - 1}", "--job-name=study", "--ntasks=1", f"--output={folder}/slurm_%a.log"]
-        run_engine(["sbatch", *own, *arguments, str(folder / "array.sh")], folder, part, progress)
+        # each array has its own files: a message may point to those of any
+        tasks, log = folder / f"array_{array}.sh", folder / f"sbatch_{array}.log"
+        write(tasks, "\n".join(lines) + "\n")
+        log.unlink(missing_ok=True)
+        own = ["--wait", f"--array=0-{len(part) - 1}", "--job-name=study", "--ntasks=1"]
+        own.append(f"--output={folder}/slurm_{array}_%a.log")
+        try:
+            run_engine(["sbatch", *own, *arguments, str(tasks)], folder, log, part, progress)
+        except KeyboardInterrupt:
+            cancel(log)
+            raise
 
 
 ENGINES = {"local": run_local, "parallel": run_parallel, "slurm": run_slurm}

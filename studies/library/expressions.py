@@ -2,6 +2,7 @@
 
 import ast
 import operator
+import sys
 
 BINARY = {
     ast.Add: operator.add, ast.Sub: operator.sub, ast.Mult: operator.mul, ast.Div: operator.truediv,
@@ -11,10 +12,27 @@ COMPARED = {
     ast.Lt: operator.lt, ast.LtE: operator.le, ast.Gt: operator.gt, ast.GtE: operator.ge,
     ast.Eq: operator.eq, ast.NotEq: operator.ne,
 }
+MOST_LEVELS = 200  # far fewer than the calls that Python lets be open at once
+NESTED = "is nested too deeply"
+GREATEST = sys.float_info.max
 
 
 class FormulaFault(ValueError):
     """What is wrong with a formula, in a few words."""
+
+
+def without_texts(*operands):
+    """The operands of arithmetic. A text isn't one of them: Python would format or repeat it."""
+    if any(isinstance(it, ast.Constant) and isinstance(it.value, str) for it in operands):
+        raise FormulaFault("has arithmetic with a text")
+    return operands
+
+
+def calculated(operation, left, right):
+    """Arithmetic with the values of columns, of which some may be texts."""
+    if isinstance(left, str) or isinstance(right, str):
+        raise TypeError("a text has no arithmetic")
+    return BINARY[type(operation)](left, right)
 
 
 class Formula:
@@ -25,36 +43,48 @@ class Formula:
             self._tree = ast.parse(" ".join(text.split()), mode="eval").body
         except (SyntaxError, ValueError):
             raise FormulaFault("isn't a formula") from None
+        except (RecursionError, MemoryError):
+            raise FormulaFault(NESTED) from None
         self.text = text
         self.names = set()
-        self._accept(self._tree)
+        self._accept(self._tree, 1)
 
-    def _accept(self, node):
+    def _accept(self, node, level):
+        if level > MOST_LEVELS:
+            raise FormulaFault(NESTED)
+        parts = []
         match node:
             case ast.Name():
                 self.names.add(node.id)
             case ast.Constant(value=int() | float() | str()):
                 pass
             case ast.BinOp() if type(node.op) in BINARY:
-                self._accept(node.left)
-                self._accept(node.right)
-            case ast.UnaryOp(op=ast.Not() | ast.USub()):
-                self._accept(node.operand)
+                parts = without_texts(node.left, node.right)
+            case ast.UnaryOp(op=ast.USub()):
+                parts = without_texts(node.operand)
+            case ast.UnaryOp(op=ast.Not()):
+                parts = [node.operand]
             case ast.BoolOp():
-                for it in node.values:
-                    self._accept(it)
+                parts = node.values
             case ast.Compare() if all(type(it) in COMPARED for it in node.ops):
-                for it in (node.left, *node.comparators):
-                    self._accept(it)
+                parts = [node.left, *node.comparators]
             case _:
                 raise FormulaFault("may only have names, numbers, texts, + - * / // %, comparisons, and, or, not")
+        for it in parts:
+            self._accept(it, level + 1)
 
     def value(self, row):
-        """Its value in a row. None where a value that it needs is empty, or where it divides by 0."""
+        """Its value in a row. None where it can't be calculated.
+
+        A value that it needs is empty, it calculates with a text, it divides by 0, or its number is too large.
+        """
         try:
-            return self._value(self._tree, row)
-        except (TypeError, ZeroDivisionError):
+            found = self._value(self._tree, row)
+        except (TypeError, ArithmeticError):
             return None
+        if isinstance(found, (int, float)) and not -GREATEST <= found <= GREATEST:
+            return None
+        return found
 
     def _value(self, node, row):
         match node:
@@ -63,7 +93,7 @@ class Formula:
             case ast.Constant():
                 return node.value
             case ast.BinOp():
-                return BINARY[type(node.op)](self._value(node.left, row), self._value(node.right, row))
+                return calculated(node.op, self._value(node.left, row), self._value(node.right, row))
             case ast.UnaryOp(op=ast.Not()):
                 return not self._value(node.operand, row)
             case ast.UnaryOp():

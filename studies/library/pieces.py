@@ -28,14 +28,31 @@ def digest(text):
     return hashlib.sha256(text.encode()).hexdigest()
 
 
+def digest_of_program(ultra):
+    """A digest of the simulator, since another one may give other answers. Empty where its file can't be read.
+
+    The script `ultra` of a tree only starts the program that was built there.
+    """
+    path = Path(ultra).resolve()
+    built = path.parent / "crates" / "ultra" / "out" / "ultra"
+    try:
+        return hashlib.sha256((built if path.name == "ultra" and built.is_file() else path).read_bytes()).hexdigest()
+    except OSError:
+        return ""
+
+
 def write(path, text):
     """Writes a file in such a way that it is there as a whole, or not at all."""
     path.parent.mkdir(parents=True, exist_ok=True)
     handle, part = tempfile.mkstemp(dir=path.parent, prefix=path.name, suffix=".part")
-    with os.fdopen(handle, "w") as file:
-        file.write(text)
-    os.chmod(part, 0o644)
-    os.replace(part, path)
+    try:
+        with os.fdopen(handle, "w") as file:
+            file.write(text)
+        os.chmod(part, 0o644)
+        os.replace(part, path)
+    except BaseException:
+        Path(part).unlink(missing_ok=True)
+        raise
 
 
 def stored(folder, kind, ending, text):
@@ -50,13 +67,16 @@ def jobs_text(jobs):
     return "\n".join(f'[[job]]\nconf = "{conf}"\nprog = "{prog}"\n' for conf, prog in jobs)
 
 
-def pieces_of(folder, machines, size, hot_cells):
-    """Writes settings, programs and files of jobs, each of at most `size` jobs. `machines` are pairs of texts."""
+def pieces_of(folder, machines, size, hot_cells, simulator):
+    """Writes settings, programs and files of jobs, each of at most `size` jobs. `machines` are pairs of texts.
+
+    The name of a piece is a digest of all that its answer depends on. `simulator` is that of the program.
+    """
     jobs = [(stored(folder, "settings", "toml", conf), stored(folder, "programs", "s", prog)) for conf, prog in machines]
     pieces = []
     for start in range(0, len(jobs), size):
         text = jobs_text(jobs[start:start + size])
-        name = digest(text + f"hot cells {hot_cells}")[:16]
+        name = digest(text + f"hot cells {hot_cells} {simulator}")[:16]
         path = folder / "jobs" / f"{name}.toml"
         if not path.is_file() or path.read_text() != text:
             write(path, text)

@@ -2,6 +2,7 @@
 
 import re
 import subprocess
+import sys
 from dataclasses import dataclass
 
 from library.expressions import number
@@ -26,6 +27,22 @@ def label_of(template, row):
     return re.sub(r"\{(\w+)\}", lambda it: row.get(it[1], it[0]), template)
 
 
+def number_in(row, column, key):
+    """The place on an axis that a row has in a column."""
+    value = number(row[column])
+    if isinstance(value, str) or not -sys.float_info.max <= value <= sys.float_info.max:
+        raise StudyFault(key, f"the column {column} isn't numbers")
+    return value
+
+
+def points_of(rows, x, y, key):
+    """The points of a line from left to right."""
+    points = sorted((number_in(it, x, key), number_in(it, y, key)) for it in rows if it[x] and it[y])
+    if len({place for place, _ in points}) < len(points):
+        raise StudyFault(f"{key}.by", f"a line has two points with the same {x}")
+    return points
+
+
 def lines_of(plot, number_of_plot, rows):
     """The lines of a plot."""
     found = []
@@ -39,9 +56,7 @@ def lines_of(plot, number_of_plot, rows):
             if line.where is None or line.where.value({it: number(row[it]) for it in line.where.names}):
                 groups.setdefault(tuple(row[it] for it in line.by), []).append(row)
         for group, chosen in groups.items():
-            points = sorted((number(it[plot.x]), number(it[line.y])) for it in chosen if it[plot.x] and it[line.y])
-            if len({x for x, _ in points}) < len(points):
-                raise StudyFault(f"{key}.by", f"a line has two points with the same {plot.x}")
+            points = points_of(chosen, plot.x, line.y, key)
             if points:
                 found.append(Drawn(label_of(line.label, chosen[0]), group, line.is_dashed, points))
     if not found:
@@ -95,16 +110,28 @@ def script(plot, lines, name):
     return "\n".join(text) + "\n"
 
 
+def run_gnuplot(name, folder):
+    """Draws the pictures of NAME.gp. None is left where that fails: half a picture would pass for a whole one."""
+    try:
+        ran = subprocess.run(["gnuplot", f"{name}.gp"], cwd=folder, capture_output=True, text=True)
+        if ran.returncode:
+            lines = [it for it in ran.stderr.splitlines() if it.strip()] or ["gnuplot failed"]
+            raise StudyFault(f"plot {name}", lines[-1].strip())
+    except FileNotFoundError:
+        raise
+    except BaseException:
+        for ending in SIZES:
+            (folder / f"{name}.{ending}").unlink(missing_ok=True)
+        raise
+
+
 def draw(study, rows, folder):
     """Writes each plot into the folder. False where there is no gnuplot. Raises StudyFault."""
     scripts = [(it.name, script(it, lines_of(it, index, rows), it.name)) for index, it in enumerate(study.plots)]
     for name, text in scripts:
         (folder / f"{name}.gp").write_text(text)
         try:
-            ran = subprocess.run(["gnuplot", f"{name}.gp"], cwd=folder, capture_output=True, text=True)
+            run_gnuplot(name, folder)
         except FileNotFoundError:
             return False
-        if ran.returncode:
-            lines = [it for it in ran.stderr.splitlines() if it.strip()] or ["gnuplot failed"]
-            raise StudyFault(f"plot {name}", lines[-1].strip())
     return True

@@ -192,6 +192,18 @@ def plot_of(raw, number):
     )
 
 
+def plots_of(raw):
+    plots = raw.get("plot", [])
+    need(isinstance(plots, list), "plot", "must be tables [[plot]]")
+    found = {}
+    for number, it in enumerate(plots):
+        plot = plot_of(it, number)
+        # the pictures are named after it
+        need(plot.name not in found, f"plot[{number}].name", "is that of another plot")
+        found[plot.name] = plot
+    return list(found.values())
+
+
 def columns_of(raw):
     columns = raw.get("columns", {})
     need(isinstance(columns, dict), "columns", "must be a table")
@@ -210,13 +222,11 @@ def study_of(bytes_):
     need(("programs" in raw) != ("traffic" in raw), "programs", "give either programs or traffic")
     programs = programs_of(raw["programs"]) if "programs" in raw else {}
     axes = axes_of(raw, programs)
-    plots = raw.get("plot", [])
-    need(isinstance(plots, list), "plot", "must be tables [[plot]]")
     study = Study(
         title=text(raw, "title", "title"), axes=axes, fixed=fixed_of(raw, axes), programs=programs,
         hot_cells=hot_cells_of(raw), columns=columns_of(raw),
         where=formula(raw["where"], "where", axes) if "where" in raw else None,
-        plots=[plot_of(it, number) for number, it in enumerate(plots)],
+        plots=plots_of(raw),
     )
     need(study.points(), "where", "leaves no point")
     return study

@@ -8,10 +8,13 @@ from pathlib import Path
 from support import STUDIES
 
 
+TABLE = b"name,pes,mean\na,2,1.5\nlonger,4,\nb,8,10.25\n"
+
+
 class Rows(unittest.TestCase):
-    def rows(self, *words):
+    def rows(self, *words, table=TABLE):
         with tempfile.TemporaryDirectory() as folder:
-            (Path(folder) / "t.csv").write_text("name,pes,mean\na,2,1.5\nlonger,4,\nb,8,10.25\n")
+            (Path(folder) / "t.csv").write_bytes(table)
             ran = subprocess.run([STUDIES / "rows", *words], cwd=folder, capture_output=True, text=True)
         return ran.returncode, ran.stdout, ran.stderr
 
@@ -25,6 +28,19 @@ class Rows(unittest.TestCase):
         self.assertEqual(self.rows("t.csv", "acts > 1", "pes"), (2, "", "rows: there is no column acts\n"))
         self.assertEqual(self.rows("none.csv", "pes > 1", "pes"), (2, "", "rows: cannot read none.csv\n"))
         self.assertEqual(self.rows("t.csv")[0], 2)
+
+    def test_a_table_with_a_head_only(self):
+        head = TABLE.splitlines()[0] + b"\n"
+        self.assertEqual(self.rows("t.csv", "pes > 2", "pes", "name", table=head), (0, "pes  name\n", ""))
+        self.assertEqual(self.rows("t.csv", "pes > 1", "acts", table=head), (2, "", "rows: there is no column acts\n"))
+        self.assertEqual(self.rows("t.csv", "pes > 1", "pes", table=b""), (2, "", "rows: there is no column pes\n"))
+
+    def test_what_is_not_a_table(self):
+        for table in (b"\xff\xfe\0\1", b"pes\n" + b"1" * 200_000 + b"\n"):
+            self.assertEqual(self.rows("t.csv", "pes > 1", "pes", table=table), (2, "", "rows: t.csv isn't a table\n"))
+        for row in (b"c,16\n", b"c,16,1,1\n"):
+            fault = "rows: t.csv: row 4 has another number of values than the head\n"
+            self.assertEqual(self.rows("t.csv", "pes > 1", "mean", table=TABLE + row), (2, "", fault))
 
 
 if __name__ == "__main__":

@@ -5,6 +5,7 @@ import io
 import os
 import re
 import shutil
+import signal
 import subprocess
 import sys
 import tempfile
@@ -16,7 +17,7 @@ from pathlib import Path
 from support import STUDIES, script
 
 from library.expressions import Formula, FormulaFault, number
-from library.pieces import Piece, answer, answer_path, jobs_text, pieces_of
+from library.pieces import Piece, answer, answer_path, digest_of_program, jobs_text, pieces_of, write
 from library.plots import COLORS, Drawn, lines_of, looks, script as gnuplot_script
 from library.study_file import StudyFault, study_of
 from library.table import joined
@@ -64,6 +65,24 @@ class InFolder(unittest.TestCase):
         (tools / "python3").symlink_to(sys.executable)
         return unittest.mock.patch.dict(os.environ, {"PATH": str(tools)})
 
+    def tool(self, command, body):
+        """Puts a script in the place of a command. Gives the PATH that finds it first."""
+        tools = self.folder / "tools"
+        tools.mkdir(exist_ok=True)
+        head = "#!/usr/bin/env python3\nimport os, signal, subprocess, sys\nwords = sys.argv[1:]\n"
+        note = f"open({str(self.folder / f'{command}.words')!r}, 'w').write(' '.join(words))\n"
+        (tools / command).write_text(head + note + body)
+        (tools / command).chmod(0o755)
+        return unittest.mock.patch.dict(os.environ, {"PATH": f"{tools}:{os.environ['PATH']}"})
+
+    def words(self, command):
+        """The arguments of the last call of a script in the place of a command."""
+        return (self.folder / f"{command}.words").read_text()
+
+    def catch_interrupts(self):
+        """Has an interrupt end a study, also where the tests run in the background of a shell, which ignores it."""
+        self.addCleanup(signal.signal, signal.SIGINT, signal.signal(signal.SIGINT, signal.default_int_handler))
+
     def table(self):
         return (self.folder / "out" / "results.csv").read_text().splitlines()
 
@@ -96,12 +115,32 @@ class Grid(unittest.TestCase):
 
 class Formulas(unittest.TestCase):
     def test_values(self):
-        row = {"a": 6, "b": 4, "c": None, "d": "x"}
+        row = {"a": 6, "b": 4, "c": None, "d": "x", "e": "%q"}
         for text, value in (
             ("a + b * 2 - 1", 13), ("-a / b", -1.5), ("a // b + a % b", 3), ("1 < b < a", True), ("b > a or d == 'x'", True),
             ("not a == 6", False), ("a / (b - 4)", None), ("a + c", None), ("(a > 1) + (b > 9)", 1),
         ):
             self.assertEqual(Formula(text).value(row), value)
+
+    def test_values_that_cannot_be_calculated(self):
+        row = {"a": 6, "d": "x", "e": "%q"}
+        for text in ("e % a", "d * 99999999999999", "d + d", "-d", f"{10**400} / 1", f"{10**400}", f"{10**400} * 1.5", "1e999 - 1e999"):
+            self.assertIsNone(Formula(text).value(row), text)
+
+    def test_levels(self):
+        self.assertEqual(Formula("+".join(["a"] * 200)).value({"a": 1}), 200)
+        text = "a"
+        for level in range(99):
+            text = f"(a < {text})" if level % 2 else f"(a and {text})"
+        self.assertEqual(Formula(text).value({"a": 1}), False)
+        for text in ("+".join(["a"] * 201), "-" * 5000 + "1", "-" * 50_000 + "1", "not " * 201 + "1"):
+            with self.assertRaisesRegex(FormulaFault, "^is nested too deeply$"):
+                Formula(text)
+
+    def test_a_text_has_no_arithmetic(self):
+        for text in ("'%q' % pes", "'a' * 99999999999999", "2 * 'a'", "'a' + 'b'", "-'a'"):
+            with self.assertRaisesRegex(FormulaFault, "^has arithmetic with a text$"):
+                Formula(text)
 
     def test_refusals(self):
         for text in ("a +", "f(a)", "a.b", "[1]", "a if b else c", "a ** b", "lambda: 1", "a := 1", "a) or (b"):
@@ -115,8 +154,8 @@ class Formulas(unittest.TestCase):
 class Names(InFolder):
     MACHINES = [("stages = 1\n", "halt\n"), ("stages = 2\n", "halt\n"), ("stages = 3\n", "halt\n")]
 
-    def names(self, machines, size=2, hot_cells=()):
-        return [it.name for it in pieces_of(self.folder, machines, size, list(hot_cells))]
+    def names(self, machines, size=2, hot_cells=(), simulator="0123"):
+        return [it.name for it in pieces_of(self.folder, machines, size, list(hot_cells), simulator)]
 
     def test_they_follow_from_the_content(self):
         names = self.names(self.MACHINES)
@@ -126,6 +165,20 @@ class Names(InFolder):
         for others in ([("stages = 1\nopen = 1\n", "halt\n")], [("stages = 1\n", "fence\n")]):
             self.assertNotEqual(self.names(others + self.MACHINES[1:])[0], names[0])
         self.assertNotEqual(self.names(self.MACHINES, hot_cells=[0])[0], names[0])
+        self.assertNotEqual(self.names(self.MACHINES, simulator="4567")[0], names[0])
+
+    def test_the_script_of_a_tree_is_the_program_built_there(self):
+        script_of_tree, built = self.folder / "ultra", self.folder / "crates" / "ultra" / "out" / "ultra"
+        built.parent.mkdir(parents=True)
+        script_of_tree.write_text("script")
+        built.write_text("one")
+        link = self.folder / "link"
+        link.symlink_to(script_of_tree)
+        one = digest_of_program(built)
+        self.assertEqual([digest_of_program(it) for it in (script_of_tree, link)], [one, one])
+        built.write_text("two")
+        self.assertNotIn(digest_of_program(script_of_tree), (one, ""))
+        self.assertEqual(digest_of_program(self.folder / "none"), "")
 
     def test_files_of_jobs(self):
         self.names(self.MACHINES * 100, size=256)
@@ -171,6 +224,25 @@ class Running(InFolder):
         next((self.folder / "out" / "answers").iterdir()).unlink()
         self.study(SMALL, "--jobs", "2")
         self.assertEqual((len(self.sweeps()), self.table()), (1, table))
+
+    def test_answers_of_another_simulator_do_not_count(self):
+        other = Path(shutil.copy(STUDIES / "tests" / "fake_ultra", self.folder / "ultra"))
+        for changes, sweeps in (("", 1), ("", 0), ("# another timing\n", 1)):
+            other.write_text(other.read_text() + changes)
+            self.assertEqual(self.study(SMALL, ultra=other).returncode, 0)
+            self.assertEqual(len(self.sweeps()), sweeps)
+
+    def test_a_table_that_was_interrupted_is_not_there(self):
+        def half(file, rows):
+            file.write("stages,")
+            raise KeyboardInterrupt
+
+        with unittest.mock.patch.object(study, "write_table", half):
+            self.assertEqual(self.study(SMALL).returncode, 1)
+        self.assertEqual(list((self.folder / "out").glob("results.csv*")), [])
+        with self.assertRaises(UnicodeEncodeError):
+            write(self.folder / "out" / "results.csv", "stages,\ud800")
+        self.assertEqual(list((self.folder / "out").glob("results.csv*")), [])
 
     def test_a_broken_or_half_written_answer_is_run_again(self):
         self.study(SMALL, "--jobs", "2")
@@ -227,6 +299,10 @@ names = words[words.index(":::") + 1:]
 for name in names:
     subprocess.run(["bash", "-c", words[words.index(":::") - 1].replace("{}", name)])
 """
+    INTERRUPTED = """
+print("sbatch: note 5\\nSubmitted batch job 77", flush=True)
+os.kill(os.getppid(), signal.SIGINT)
+"""
     SBATCH = """
 last = next(it for it in words if it.startswith("--array=0-")).removeprefix("--array=0-")
 for task in range(int(last) + 1):
@@ -234,12 +310,7 @@ for task in range(int(last) + 1):
 """
 
     def by(self, engine, command, body, *arguments):
-        tools = self.folder / "tools"
-        tools.mkdir(exist_ok=True)
-        head = "#!/usr/bin/env python3\nimport os, subprocess, sys\nwords = sys.argv[1:]\n"
-        (tools / command).write_text(head + f"open({str(self.folder / 'words')!r}, 'w').write(' '.join(words))" + body)
-        (tools / command).chmod(0o755)
-        with unittest.mock.patch.dict(os.environ, {"PATH": f"{tools}:{os.environ['PATH']}"}):
+        with self.tool(command, body):
             return self.study("hot_cells = [0, 3]\n" + SMALL, "--jobs", "2", "--out", engine, "--with", engine, *arguments)
 
     def tables(self, engine):
@@ -250,20 +321,44 @@ for task in range(int(last) + 1):
         ran = self.by("parallel", "parallel", self.PARALLEL, "--workers", "3", "--engine-args", "--sshlogin 'a,b'")
         self.assertEqual(ran.returncode, 0, ran.stderr)
         self.assertEqual(*self.tables("parallel"))
-        self.assertIn("--jobs 3 --retries 3 ", (self.folder / "words").read_text())
-        self.assertIn(" --sshlogin a,b ", (self.folder / "words").read_text())
+        self.assertIn("--jobs 3 --retries 3 ", self.words("parallel"))
+        self.assertIn(" --sshlogin a,b ", self.words("parallel"))
         self.assertIn("study: 8 of 8 points, 0 s left\n", ran.stderr)
 
     def test_slurm(self):
         ran = self.by("slurm", "sbatch", self.SBATCH, "--engine-args=--partition=all")
         self.assertEqual(ran.returncode, 0, ran.stderr)
         self.assertEqual(*self.tables("slurm"))
-        self.assertIn(" --partition=all ", (self.folder / "words").read_text())
+        self.assertIn(" --partition=all ", self.words("sbatch"))
+
+    def test_a_second_array_has_its_own_files(self):
+        with unittest.mock.patch("library.engines.MOST_TASKS", 3):
+            ran = self.by("slurm", "sbatch", self.SBATCH)
+        self.assertEqual(ran.returncode, 0, ran.stderr)
+        self.assertEqual(*self.tables("slurm"))
+        files = sorted(it.name for it in (self.folder / "slurm").iterdir() if it.suffix in (".sh", ".log"))
+        self.assertEqual(files, ["array_0.sh", "array_1.sh", "sbatch_0.log", "sbatch_1.log"])
+        self.assertIn("/slurm_1_%a.log ", self.words("sbatch"))
+
+    def test_an_interrupt_takes_the_array_off_the_cluster(self):
+        self.catch_interrupts()
+        self.tool("scancel", "")
+        ran = self.by("slurm", "sbatch", self.INTERRUPTED)
+        self.assertEqual((ran.returncode, ran.stderr.splitlines()[1]), (1, "study: interrupted: start again to run the rest"))
+        self.assertEqual(self.words("scancel"), "77")
+        self.by("slurm", "sbatch", self.INTERRUPTED.replace("77", "78 on cluster far"))
+        self.assertEqual(self.words("scancel"), "--clusters=far 78")
+        self.tool("scancel", "sys.exit(1)")
+        ran = self.by("slurm", "sbatch", self.INTERRUPTED)
+        self.assertEqual(ran.stderr.splitlines()[1], "study: scancel 77 failed: the job may still be on the cluster")
+        ran = self.by("slurm", "sbatch", self.INTERRUPTED.replace("Submitted", "Sent"))
+        log = self.folder.resolve() / "slurm" / "sbatch_0.log"
+        self.assertEqual(ran.stderr.splitlines()[1], f"study: {log} names no job: squeue shows whether one is still on the cluster")
 
     def test_an_engine_that_fails(self):
         ran = self.by("slurm", "sbatch", "\nsys.exit(3)\n")
         self.assertEqual(ran.returncode, 1)
-        log = self.folder.resolve() / "slurm" / "sbatch.log"
+        log = self.folder.resolve() / "slurm" / "sbatch_0.log"
         self.assertEqual(ran.stderr.splitlines()[-2:], [
             f"study: sbatch ended with status 3; its messages are in {log}",
             "study: 4 of 4 files of jobs have no answer: start again to run them",
@@ -303,6 +398,27 @@ class Plots(InFolder):
         text = gnuplot_script(plot, lines, "p")
         for it in ("set title 'It''s' noenhanced", "$line1 << END\n2 7\n4 7\nEND\n", "set logscale x 2", "set output 'p.svg'", "set output 'p.png'"):
             self.assertIn(it, text)
+
+    def test_a_column_that_is_not_numbers(self):
+        for old, new, column in (('x = "pes"', 'x = "program"', "program"), ('y = "answered"', 'y = "program"', "program")):
+            with self.assertRaisesRegex(StudyFault, rf"^plot\[0\]: the column {column} isn't numbers$"):
+                self.drawn(self.PLOT.replace(old, new))
+        plot = study_of((SMALL + '[[plot]]\ntitle = "t"\nx = "a"\ny = "b"\n').encode()).plots[0]
+        self.assertEqual(lines_of(plot, 0, [{"a": "2", "b": "1.5"}, {"a": "1", "b": "3"}])[0].points, [(1, 3), (2, 1.5)])
+        for other in ("long", "1" + "0" * 400, "inf", "nan"):
+            with self.assertRaisesRegex(StudyFault, r"^plot\[0\]: the column a isn't numbers$"):
+                lines_of(plot, 0, [{"a": "2", "b": "1.5"}, {"a": other, "b": "3"}])
+
+    def test_a_gnuplot_that_fails_leaves_no_picture(self):
+        self.catch_interrupts()
+        for end, status, fault in (
+            ("sys.exit('no memory')", 3, "study: study.toml: plot p: no memory"),
+            ("os.kill(os.getppid(), signal.SIGINT)", 1, "study: interrupted: start again to run the rest"),
+        ):
+            with self.tool("gnuplot", f"open('p.svg', 'w').write('<svg')\n{end}\n"):
+                ran = self.study(SMALL + self.PLOT)
+            self.assertEqual((ran.returncode, ran.stderr.splitlines()[-1]), (status, fault))
+            self.assertEqual(list((self.folder / "out").glob("p.[sp]*")), [])
 
     def test_two_points_with_the_same_x(self):
         with self.assertRaisesRegex(StudyFault, r"^plot\[0\]\.by: a line has two points with the same pes$"):
@@ -399,7 +515,7 @@ class Refusals(InFolder):
             self.assertEqual(self.refusal(text), fault)
 
     def test_plots(self):
-        plot = SMALL + '[[plot]]\ntitle = "t"\n'
+        plot, same = SMALL + '[[plot]]\ntitle = "t"\n', 'x = "pes"\ny = "to"\n'
         for text, fault in (
             (SMALL + "plot = 1\n", "programs.plot: must be a text"),
             (SMALL + '[[plot]]\nx = "pes"\ny = "to"\n', "plot[0].title: must be a text"),
@@ -412,6 +528,9 @@ class Refusals(InFolder):
             (plot + 'x = "pes"\ny = "none"\n', "plot[0]: there is no column none"),
             (plot + 'x = "pes"\n[[plot.line]]\ny = "to"\nwidth = 1\n', "plot[0].line[0].width: unknown key"),
             (plot + 'x = "pes"\n[[plot.line]]\ny = "to"\ndashed = 1\n', "plot[0].line[0].dashed: must be true or false"),
+            (plot + same + 'name = "p"\n[[plot]]\ntitle = "t"\nname = "p"\n' + same, "plot[1].name: is that of another plot"),
+            (plot + same + 'name = "plot_1"\n[[plot]]\ntitle = "t"\n' + same, "plot[1].name: is that of another plot"),
+            (plot + 'x = "program"\ny = "to"\nby = ["stages", "wait_places"]\n', "plot[0]: the column program isn't numbers"),
         ):
             self.assertEqual(self.refusal(text), fault)
 
@@ -419,6 +538,7 @@ class Refusals(InFolder):
         for arguments, fault in (
             (["--jobs", "257"], "argument --jobs: must be 1 to 256"), (["--workers", "0"], "argument --workers: must be 1 to 64"),
             (["--with", "cloud"], "argument --with: invalid choice"),
+            (["--engine-args='a"], "argument --engine-args: No closing quotation"),
         ):
             ran = self.study(SMALL, *arguments)
             self.assertEqual(ran.returncode, 2)
