@@ -8,6 +8,10 @@ from pathlib import Path
 from statistics import geometric_mean
 
 HERE = Path(__file__).resolve().parent
+PROGRAM = HERE / "../crates/ultra/out/ultra"
+BENCH = HERE / "../crates/bench/out/bench"
+# the most cycles that settings may ask for
+MOST_CYCLES = 1_000_000
 
 
 def build():
