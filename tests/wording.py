@@ -88,6 +88,14 @@ def documents():
     return [*named, *sorted((ROOT / "docs").glob("*.md")), *(ROOT / it / "README.md" for it in FOLDERS)]
 
 
+def is_lacking(names):
+    """Whether one of the files named isn't there, which is then said on standard error."""
+    lacking = [it for it in names if not Path(it).is_file()]
+    if lacking:
+        print(f"there is no file '{lacking[0]}'", file=sys.stderr)
+    return bool(lacking)
+
+
 def count_faulty(names):
     """How many documents are looked at, and how many have a fault. Each fault is printed."""
     files, faulty = [Path(it) for it in names] or documents(), 0
@@ -99,6 +107,8 @@ def count_faulty(names):
 
 
 def main(names):
+    if is_lacking(names):
+        return 2
     checked, failed = count_faulty(names)
     print(f"{checked - failed} passed, {failed} failed")
     return 1 if failed else 0

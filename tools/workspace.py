@@ -38,6 +38,11 @@ def libraries_of_kit(name):
     return [it for it in listed[name] if it not in listed]
 
 
+def handles_allowed():
+    """The handles that the file HANDLES lets the program take."""
+    return set((ROOT / "HANDLES").read_text().partition(":")[2].replace(",", " ").replace(".", " ").split())
+
+
 def with_all_below(listed, names):
     """The crates named and all that they depend on, lowest first."""
     order = []
