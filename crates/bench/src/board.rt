@@ -64,7 +64,7 @@ fn draw_by_places<R: Threads + Sync>(rt: &R, board: &Board, seat: Seat) -> Seat
     board.join(left, right)
 }
 
-/// Draws all numbers, in as many rounds as the words ask for.
+/// Draws all numbers, in as many rounds as the arguments ask for.
 pub(crate) fn measure<R: AllocGlobal + Print + Threads + Sync>(
     rt: &R,
     words: &[String],

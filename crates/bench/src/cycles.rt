@@ -20,7 +20,7 @@ pub(crate) fn make_cycles(machine: &mut Machine, cycles: u32) {
     }
 }
 
-/// Makes the cycles that the words ask for.
+/// Makes the cycles that the arguments ask for.
 pub(crate) fn measure(
     rt: &(impl AllocGlobal + Files + Print),
     words: &[String],

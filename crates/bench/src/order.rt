@@ -41,7 +41,7 @@ fn check_all(
     Ok(())
 }
 
-/// Goes as far as the words ask for.
+/// Goes as far as the arguments ask for.
 pub(crate) fn measure(
     rt: &(impl AllocGlobal + Files + Print),
     words: &[String],

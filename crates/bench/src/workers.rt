@@ -14,7 +14,7 @@ use std::alloc::Global;
 use std::rt::Files;
 use std::sync::Wait;
 use std::thread::Threads;
-use ultra_block::count_units;
+use ultra_block::unit_count;
 use ultra_crew::{Blocks, Crew, CrewFault, Gate, Half, MOST_WORKERS};
 
 /// A gate that holds nobody up.
@@ -25,11 +25,11 @@ impl Gate for Open {
 }
 
 /// The machine before its first cycle, with unit `u` in block `u` modulo the number of workers.
-fn dealt_out(alloc: Global, setup: &Setup, workers: u8) -> anyhow::Result<Blocks>
+fn machine_in_blocks(alloc: Global, setup: &Setup, workers: u8) -> anyhow::Result<Blocks>
     requires { 1 ≤ workers }
 {
     let mut partition = Vec::new(alloc);
-    for unit in 0..count_units(&setup.config) {
+    for unit in 0..unit_count(&setup.config) {
         partition.push((unit % usize::from(workers)) as u8)?;
     }
     let partition = partition.as_slice();
@@ -76,7 +76,7 @@ fn make_cycles<R: Threads + Wait + Sync>(
     make_anew(rt, alloc, blocks, workers, count)
 }
 
-/// Makes the cycles that the words ask for.
+/// Makes the cycles that the arguments ask for.
 pub(crate) fn measure<R: AllocGlobal + Files + Print + Threads + Wait + Sync>(
     rt: &R,
     words: &[String],
@@ -97,7 +97,7 @@ pub(crate) fn measure<R: AllocGlobal + Files + Print + Threads + Wait + Sync>(
         _ => bail!("threads are kept, or started anew"),
     };
     let setup = Setup::read(rt, path, stages, cycles, Sizes::DEFAULT)?;
-    let blocks = dealt_out(rt.alloc(), &setup, workers)?;
+    let blocks = machine_in_blocks(rt.alloc(), &setup, workers)?;
     let blocks = make_cycles(rt, rt.alloc(), blocks, several, setup.cycles, kept)?;
     let cells = of_blocks(rt.alloc(), &blocks)?;
     println!(rt;

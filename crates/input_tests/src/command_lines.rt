@@ -4,7 +4,7 @@ use std::alloc::{AllocError, Global};
 use std::process::Abort;
 use std::test::Fail;
 use ultra_args::{
-    Coordination, Invocation, LineFilter, Parsed, ScheduleOf, SweepOutput, WindowCycles, parse,
+    Coordination, Invocation, LineFilter, Parsed, ScheduleSource, SweepOutput, WindowCycles, parse,
 };
 
 /// What the words ask for. Where memory was refused, that is the error here.
@@ -33,10 +33,10 @@ fn window_of(every: Option<WindowCycles>) -> u32 {
 }
 
 /// Where steps come from, as a text.
-fn schedule_text(alloc: Global, schedule: ScheduleOf<'_>) -> Result<String, AllocError> {
+fn schedule_text(alloc: Global, schedule: ScheduleSource<'_>) -> Result<String, AllocError> {
     match schedule {
-        ScheduleOf::File(path) => format!(in alloc; "file {path}"),
-        ScheduleOf::Seed { seed, steps } => match steps {
+        ScheduleSource::File(path) => format!(in alloc; "file {path}"),
+        ScheduleSource::Seed { seed, steps } => match steps {
             Some(steps) => format!(in alloc; "seed {seed} steps {steps}"),
             None => format!(in alloc; "seed {seed}"),
         },
@@ -218,7 +218,7 @@ fn version_for(alloc: Global, words: &[&str]) -> Result<String, Fail> {
 }
 
 /// Arguments with the paths and the options that they give.
-static ASKED: [(&[&str], (&str, &str), &str); 39] = [
+static ASKED: [(&[&str], (&str, &str), &str); 40] = [
     (
         &["ultra", "run", "c", "p"],
         ("c", "p"),
@@ -231,6 +231,11 @@ static ASKED: [(&[&str], (&str, &str), &str); 39] = [
     ),
     (
         &["ultra", "run", "c", "p", "--workers=2"],
+        ("c", "p"),
+        "run 2 0 1000000 all",
+    ),
+    (
+        &["ultra", "run", "c", "p", "--workers=+2"],
         ("c", "p"),
         "run 2 0 1000000 all",
     ),
@@ -436,7 +441,7 @@ fn the_options_of_a_command_are_read(rt: HostRuntime) -> Result<(), Fail> {
 }
 
 /// Arguments that are no command.
-static WRONG_WORDS: [&[&str]; 68] = [
+static WRONG_WORDS: [&[&str]; 77] = [
     &["ultra"],
     &["ultra", "run"],
     &["ultra", "run", "c"],
@@ -449,6 +454,7 @@ static WRONG_WORDS: [&[&str]; 68] = [
     &["ultra", "run", "c", "p", "--workers", "1", "--workers", "1"],
     &["ultra", "run", "c", "p", "--from", "-1"],
     &["ultra", "run", "c", "p", "--from", "1000001"],
+    &["ultra", "run", "c", "p", "--from", "1", "--from", "1"],
     &["ultra", "run", "c", "p", "--to", "1000001"],
     &["ultra", "run", "c", "p", "--to", "1", "--to", "1"],
     &["ultra", "run", "c", "p", "--only"],
@@ -472,10 +478,14 @@ static WRONG_WORDS: [&[&str]; 68] = [
         "--every",
         "18446744073709551616",
     ],
+    &["ultra", "measure", "c", "p", "--every", "1", "--every", "1"],
     &["ultra", "order", "c"],
     &["ultra", "explain", "c"],
     &["ultra", "explain", "c", "p", "--heap", "255"],
     &["ultra", "explain", "c", "p", "--heap", "16777217"],
+    &[
+        "ultra", "explain", "c", "p", "--heap", "256", "--heap", "256",
+    ],
     &["ultra", "check", "c", "p"],
     &["ultra", "check", "c", "p", "l", "l"],
     &["ultra", "para", "c", "p"],
@@ -487,6 +497,7 @@ static WRONG_WORDS: [&[&str]; 68] = [
     &["ultra", "para", "c", "p", "--steps", "1"],
     &["ultra", "para", "c", "p", "--seed", "x"],
     &["ultra", "para", "c", "p", "--seed", "18446744073709551616"],
+    &["ultra", "para", "c", "p", "--seed", "1", "--seed", "1"],
     &[
         "ultra",
         "para",
@@ -496,6 +507,9 @@ static WRONG_WORDS: [&[&str]; 68] = [
         "1",
         "--steps",
         "4294967296",
+    ],
+    &[
+        "ultra", "para", "c", "p", "--seed", "1", "--steps", "1", "--steps", "1",
     ],
     &["ultra", "para", "c", "p", "s", "--only", "events"],
     &["ultra", "para", "c", "p", "s", "s"],
@@ -508,6 +522,38 @@ static WRONG_WORDS: [&[&str]; 68] = [
     &["ultra", "sweep", "j", "--at-once", "1"],
     &["ultra", "sweep", "j", "--workers", "65", "--at-once", "1"],
     &["ultra", "sweep", "j", "--workers", "1", "--at-once", "0"],
+    &[
+        "ultra",
+        "sweep",
+        "j",
+        "--workers",
+        "1",
+        "--at-once",
+        "1",
+        "--at-once",
+        "1",
+    ],
+    &[
+        "ultra",
+        "sweep",
+        "j",
+        "--workers",
+        "1",
+        "--at-once",
+        "1",
+        "--progress",
+        "--progress",
+    ],
+    &[
+        "ultra",
+        "sweep",
+        "j",
+        "--workers",
+        "1",
+        "--at-once",
+        "1",
+        "--progress=x",
+    ],
     &[
         "ultra",
         "sweep",
@@ -541,6 +587,16 @@ static WRONG_WORDS: [&[&str]; 68] = [
         "1",
         "--measure",
         "--measure",
+    ],
+    &[
+        "ultra",
+        "sweep",
+        "j",
+        "--workers",
+        "1",
+        "--at-once",
+        "1",
+        "--measure=x",
     ],
     &["ultra", "lib"],
     &["ultra", "lib", "gate"],
@@ -623,19 +679,20 @@ fn a_usage_fault_says_what_is_wanted(rt: HostRuntime) -> Result<(), Fail> {
     Ok(())
 }
 
-/// Words that ask for help.
-static HELPS: [&[&str]; 4] = [
-    &["ultra", "--help"],
-    &["ultra", "-h"],
-    &["ultra", "run", "-h"],
-    &["ultra", "help", "run"],
+/// Words that ask for help, each with the beginning of the usage line: for the program, or for a
+/// command.
+static HELPS: [(&[&str], &str); 4] = [
+    (&["ultra", "--help"], "Usage: ultra <COMMAND>"),
+    (&["ultra", "-h"], "Usage: ultra <COMMAND>"),
+    (&["ultra", "run", "-h"], "Usage: ultra run "),
+    (&["ultra", "help", "run"], "Usage: ultra run "),
 ];
 
 #[test]
 fn help_is_shown(rt: HostRuntime) -> Result<(), Fail> {
-    for words in &HELPS {
+    for (words, usage) in &HELPS {
         let text = help_for(rt.alloc(), words)?;
-        assert!(rt; text.as_str().contains("Usage: ultra"), "{text}");
+        assert!(rt; text.as_str().contains(*usage), "{usage}: {text}");
     }
     Ok(())
 }

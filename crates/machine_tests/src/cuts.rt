@@ -83,11 +83,6 @@ fn a_machine_is_cut_or_given_back(rt: HostRuntime) -> Result<(), Fail> {
 }
 
 #[test]
-fn stages_apart(rt: HostRuntime) -> Result<(), Fail> {
-    goes_on_in(&rt, &[0, 0, 1, 1, 2, 2, 2, 2, 3, 3, 3, 3])
-}
-
-#[test]
 fn empty_blocks(rt: HostRuntime) -> Result<(), Fail> {
     goes_on_in(&rt, &[0, 63, 63, 0, 0, 0, 63, 63, 0, 63, 0, 63])
 }

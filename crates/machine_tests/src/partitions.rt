@@ -1,4 +1,4 @@
-//! Machines of two stages in several partitions, before their first cycle.
+//! Machines of two stages in a partition with empty blocks, and partitions that are refused.
 
 use crate::blocks::{events_are, first_cell_is, lane, run_blocks};
 use crate::machines::{queue_is, record_is};
@@ -41,23 +41,8 @@ fn runs_in(rt: &(impl Abort + AllocGlobal), partition: &[u8]) -> Result<(), Fail
 }
 
 #[test]
-fn one_block(rt: HostRuntime) -> Result<(), Fail> {
-    runs_in(&rt, &[0; 12])
-}
-
-#[test]
-fn one_unit_a_block(rt: HostRuntime) -> Result<(), Fail> {
-    runs_in(&rt, &[0, 1, 2, 3, 4, 5, 6, 7, 8, 9, 10, 11])
-}
-
-#[test]
 fn empty_blocks(rt: HostRuntime) -> Result<(), Fail> {
     runs_in(&rt, &[0, 63, 63, 0, 0, 0, 63, 63, 0, 63, 0, 63])
-}
-
-#[test]
-fn switches_apart(rt: HostRuntime) -> Result<(), Fail> {
-    runs_in(&rt, &[5, 5, 5, 5, 0, 0, 0, 0, 0, 0, 0, 0])
 }
 
 #[test]

@@ -139,8 +139,16 @@ fn registers_look_like(rt: &impl Abort, processor: &Processor, para: &Para, pe: 
     }
 }
 
+/// The paracomputer has the place and the state of a processing element.
+fn place_looks_like(rt: &impl Abort, processor: &Processor, para: &Para, pe: Pe) {
+    let found = para.processors().get(pe as usize);
+    let found = found.expect(rt, "no processing element");
+    assert_eq!(rt; found.pc(), processor.pc(), "place of {pe}");
+    assert_eq!(rt; found.activity(), processor.activity(), "state of {pe}");
+}
+
 /// The paracomputer has the machine's cells, and of each processing element without an open cell
-/// its registers.
+/// its registers, place and state.
 fn looks_like(rt: &impl Abort, machine: &Machine, para: &Para) {
     for cell in 0..machine.config().all_cells() {
         cell_looks_like(rt, machine, para, cell);
@@ -149,6 +157,7 @@ fn looks_like(rt: &impl Abort, machine: &Machine, para: &Para) {
         let element = machine.element(pe);
         if element.interface.open_count() == 0 {
             registers_look_like(rt, &element.processor, para, pe);
+            place_looks_like(rt, &element.processor, para, pe);
         }
     }
 }

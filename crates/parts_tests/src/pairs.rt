@@ -1,12 +1,12 @@
-//! The pairs of the runs written out in the documents, and the greatest numbers.
+//! All pairs of operations, and the greatest numbers.
 
 use std::process::Abort;
 use ultra_msg::{Give, Op, Paired, Register, Reply, Shift, pair};
 
-/// A pair of the runs written out in the documents: what each was answered there, from the reply to
-/// what was sent.
+/// Two operations on one cell that combine: what is sent for both, a reply to that, and what each
+/// is answered then. The name is that of a run written out in the documents, or says which two.
 struct Meeting {
-    run: &'static str,
+    name: &'static str,
     old: Op,
     new: Op,
     sent: Op,
@@ -16,9 +16,40 @@ struct Meeting {
     old_first: bool,
 }
 
-const MEETINGS: [Meeting; 7] = [
+/// All pairs of operations, in the order of their table in the documents.
+const MEETINGS: [Meeting; 17] = [
     Meeting {
-        run: "combined_pair",
+        name: "load_then_load",
+        old: Op::Load,
+        new: Op::Load,
+        sent: Op::Load,
+        reply: Reply::Value(5),
+        to_old: Reply::Value(5),
+        to_new: Reply::Value(5),
+        old_first: true,
+    },
+    Meeting {
+        name: "load_then_faa",
+        old: Op::Load,
+        new: Op::Faa(3),
+        sent: Op::Faa(3),
+        reply: Reply::Value(5),
+        to_old: Reply::Value(5),
+        to_new: Reply::Value(5),
+        old_first: true,
+    },
+    Meeting {
+        name: "faa_then_load",
+        old: Op::Faa(3),
+        new: Op::Load,
+        sent: Op::Faa(3),
+        reply: Reply::Value(5),
+        to_old: Reply::Value(5),
+        to_new: Reply::Value(8),
+        old_first: true,
+    },
+    Meeting {
+        name: "combined_pair",
         old: Op::Faa(1),
         new: Op::Faa(1),
         sent: Op::Faa(2),
@@ -28,27 +59,7 @@ const MEETINGS: [Meeting; 7] = [
         old_first: true,
     },
     Meeting {
-        run: "load_then_store",
-        old: Op::Load,
-        new: Op::Store(7),
-        sent: Op::Store(7),
-        reply: Reply::Ack,
-        to_old: Reply::Value(7),
-        to_new: Reply::Ack,
-        old_first: false,
-    },
-    Meeting {
-        run: "store_then_faa",
-        old: Op::Store(10),
-        new: Op::Faa(3),
-        sent: Op::Store(13),
-        reply: Reply::Ack,
-        to_old: Reply::Ack,
-        to_new: Reply::Value(10),
-        old_first: true,
-    },
-    Meeting {
-        run: "wraparound",
+        name: "wraparound",
         old: Op::Faa(4294967295),
         new: Op::Faa(4294967295),
         sent: Op::Faa(4294967294),
@@ -58,7 +69,27 @@ const MEETINGS: [Meeting; 7] = [
         old_first: true,
     },
     Meeting {
-        run: "faa_then_store",
+        name: "load_then_store",
+        old: Op::Load,
+        new: Op::Store(7),
+        sent: Op::Store(7),
+        reply: Reply::Ack,
+        to_old: Reply::Value(7),
+        to_new: Reply::Ack,
+        old_first: false,
+    },
+    Meeting {
+        name: "store_then_load",
+        old: Op::Store(7),
+        new: Op::Load,
+        sent: Op::Store(7),
+        reply: Reply::Ack,
+        to_old: Reply::Ack,
+        to_new: Reply::Value(7),
+        old_first: true,
+    },
+    Meeting {
+        name: "faa_then_store",
         old: Op::Faa(3),
         new: Op::Store(10),
         sent: Op::Store(13),
@@ -68,17 +99,47 @@ const MEETINGS: [Meeting; 7] = [
         old_first: false,
     },
     Meeting {
-        run: "two_swaps",
-        old: Op::Swap(8),
-        new: Op::Swap(7),
-        sent: Op::Swap(7),
-        reply: Reply::Value(0),
-        to_old: Reply::Value(0),
-        to_new: Reply::Value(8),
+        name: "store_then_faa",
+        old: Op::Store(10),
+        new: Op::Faa(3),
+        sent: Op::Store(13),
+        reply: Reply::Ack,
+        to_old: Reply::Ack,
+        to_new: Reply::Value(10),
         old_first: true,
     },
     Meeting {
-        run: "swap_then_faa",
+        name: "store_then_store",
+        old: Op::Store(7),
+        new: Op::Store(8),
+        sent: Op::Store(8),
+        reply: Reply::Ack,
+        to_old: Reply::Ack,
+        to_new: Reply::Ack,
+        old_first: true,
+    },
+    Meeting {
+        name: "swap_then_load",
+        old: Op::Swap(7),
+        new: Op::Load,
+        sent: Op::Swap(7),
+        reply: Reply::Value(5),
+        to_old: Reply::Value(5),
+        to_new: Reply::Value(7),
+        old_first: true,
+    },
+    Meeting {
+        name: "load_then_swap",
+        old: Op::Load,
+        new: Op::Swap(7),
+        sent: Op::Swap(7),
+        reply: Reply::Value(5),
+        to_old: Reply::Value(5),
+        to_new: Reply::Value(5),
+        old_first: true,
+    },
+    Meeting {
+        name: "swap_then_faa",
         old: Op::Swap(10),
         new: Op::Faa(3),
         sent: Op::Swap(13),
@@ -87,30 +148,70 @@ const MEETINGS: [Meeting; 7] = [
         to_new: Reply::Value(10),
         old_first: true,
     },
+    Meeting {
+        name: "faa_then_swap",
+        old: Op::Faa(3),
+        new: Op::Swap(10),
+        sent: Op::Swap(10),
+        reply: Reply::Value(5),
+        to_old: Reply::Value(5),
+        to_new: Reply::Value(8),
+        old_first: true,
+    },
+    Meeting {
+        name: "swap_then_store",
+        old: Op::Swap(7),
+        new: Op::Store(10),
+        sent: Op::Swap(10),
+        reply: Reply::Value(5),
+        to_old: Reply::Value(5),
+        to_new: Reply::Ack,
+        old_first: true,
+    },
+    Meeting {
+        name: "store_then_swap",
+        old: Op::Store(7),
+        new: Op::Swap(10),
+        sent: Op::Store(10),
+        reply: Reply::Ack,
+        to_old: Reply::Ack,
+        to_new: Reply::Value(7),
+        old_first: true,
+    },
+    Meeting {
+        name: "two_swaps",
+        old: Op::Swap(8),
+        new: Op::Swap(7),
+        sent: Op::Swap(7),
+        reply: Reply::Value(0),
+        to_old: Reply::Value(0),
+        to_new: Reply::Value(8),
+        old_first: true,
+    },
 ];
 
 /// Asserts what a pair is answered from the reply to what is sent for it.
 fn check_answers(rt: &impl Abort, meeting: &Meeting, paired: Paired) {
-    let run = meeting.run;
+    let name = meeting.name;
     let to_old = paired.give_old.of(meeting.reply);
-    assert_eq!(rt; to_old, meeting.to_old, "to old in {run}");
+    assert_eq!(rt; to_old, meeting.to_old, "to old in {name}");
     let to_new = paired.give_new.of(meeting.reply);
-    assert_eq!(rt; to_new, meeting.to_new, "to new in {run}");
+    assert_eq!(rt; to_new, meeting.to_new, "to new in {name}");
 }
 
 /// Asserts what is sent for a pair, and which of the two goes first.
 fn check_meeting(rt: &impl Abort, meeting: &Meeting) {
-    let run = meeting.run;
+    let name = meeting.name;
     let paired = pair(meeting.old, meeting.new);
-    assert_eq!(rt; paired.sent, meeting.sent, "sent in {run}");
-    assert_eq!(rt; paired.old_first, meeting.old_first, "first in {run}");
+    assert_eq!(rt; paired.sent, meeting.sent, "sent in {name}");
+    assert_eq!(rt; paired.old_first, meeting.old_first, "first in {name}");
     let old_first = paired.give_old.old_goes_first();
-    assert_eq!(rt; old_first, meeting.old_first, "first in {run}");
+    assert_eq!(rt; old_first, meeting.old_first, "first in {name}");
     check_answers(rt, meeting, paired);
 }
 
 #[test]
-fn pairs_of_the_runs(rt: HostRuntime) {
+fn all_pairs(rt: HostRuntime) {
     for meeting in &MEETINGS {
         check_meeting(&rt, meeting);
     }

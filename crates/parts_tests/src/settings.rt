@@ -84,18 +84,94 @@ fn stages_out_of_range_are_refused(rt: HostRuntime) -> Result<(), Fail> {
     Ok(())
 }
 
+/// The default settings with one stage, but with this number for a field.
+fn settings_with(alloc: Global, field: Field, number: i64) -> RawSettings {
+    let number = Some(number);
+    match field {
+        Field::Stages => RawSettings {
+            stages: number,
+            ..defaults(alloc, 1)
+        },
+        Field::RequestPlaces => RawSettings {
+            request_places: number,
+            ..defaults(alloc, 1)
+        },
+        Field::ReplyPlaces => RawSettings {
+            reply_places: number,
+            ..defaults(alloc, 1)
+        },
+        Field::WaitPlaces => RawSettings {
+            wait_places: number,
+            ..defaults(alloc, 1)
+        },
+        Field::MostOpen => RawSettings {
+            most_open: number,
+            ..defaults(alloc, 1)
+        },
+        Field::Cells => RawSettings {
+            cells: number,
+            ..defaults(alloc, 1)
+        },
+        Field::Cycles => RawSettings {
+            cycles: number,
+            ..defaults(alloc, 1)
+        },
+        Field::Initial => defaults(alloc, 1),
+    }
+}
+
+/// The least and the greatest number of each field.
+const ENDS: [(Field, i64); 14] = [
+    (Field::Stages, 1),
+    (Field::Stages, 6),
+    (Field::RequestPlaces, 2),
+    (Field::RequestPlaces, 32),
+    (Field::ReplyPlaces, 4),
+    (Field::ReplyPlaces, 64),
+    (Field::WaitPlaces, 0),
+    (Field::WaitPlaces, 16),
+    (Field::MostOpen, 1),
+    (Field::MostOpen, 8),
+    (Field::Cells, 1),
+    (Field::Cells, 4096),
+    (Field::Cycles, 1),
+    (Field::Cycles, 1_000_000),
+];
+
+#[test]
+fn each_end_of_a_range_is_accepted(rt: HostRuntime) -> Result<(), Fail> {
+    for (field, number) in ENDS {
+        let raw = settings_with(rt.alloc(), field, number);
+        assert_eq!(rt; refusal(rt.alloc(), &raw)?, None, "{number}");
+    }
+    Ok(())
+}
+
+/// The numbers just below and just above the range of each field.
+const NEIGHBOURS: [(Field, i64); 14] = [
+    (Field::Stages, 0),
+    (Field::Stages, 7),
+    (Field::RequestPlaces, 1),
+    (Field::RequestPlaces, 33),
+    (Field::ReplyPlaces, 3),
+    (Field::ReplyPlaces, 65),
+    (Field::WaitPlaces, -1),
+    (Field::WaitPlaces, 17),
+    (Field::MostOpen, 0),
+    (Field::MostOpen, 9),
+    (Field::Cells, 0),
+    (Field::Cells, 4097),
+    (Field::Cycles, 0),
+    (Field::Cycles, 1_000_001),
+];
+
 #[test]
 fn numbers_outside_their_range_are_refused(rt: HostRuntime) -> Result<(), Fail> {
-    let raw = RawSettings {
-        wait_places: Some(17),
-        ..defaults(rt.alloc(), 1)
-    };
-    check_refused(&rt, raw, Field::WaitPlaces)?;
-    let raw = RawSettings {
-        cycles: Some(1_000_001),
-        ..defaults(rt.alloc(), 1)
-    };
-    check_refused(&rt, raw, Field::Cycles)
+    for (field, number) in NEIGHBOURS {
+        let raw = settings_with(rt.alloc(), field, number);
+        check_refused(&rt, raw, field)?;
+    }
+    Ok(())
 }
 
 #[test]

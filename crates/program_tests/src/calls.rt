@@ -39,13 +39,13 @@ impl Ended {
         assert_eq!(rt; self.status, 5);
     }
 
-    /// Asserts that this whole text was written, or a prefix of it and a line that says that memory
-    /// or a thread was refused.
-    pub(crate) fn check_refused_or_whole<R: Abort>(&self, rt: &R, text: &str) {
+    /// Asserts this status and that this whole text was written, or a prefix of the text and a line
+    /// that says that memory or a thread was refused.
+    pub(crate) fn check_refused_or_whole<R: Abort>(&self, rt: &R, wanted: (u8, &str)) {
         if !is_refusal(self.err.as_str()) {
-            return self.check(rt, (0, text, ""));
+            return self.check(rt, (wanted.0, wanted.1, ""));
         }
-        assert!(rt; text.starts_with(self.out.as_str()), "{}", self.out);
+        assert!(rt; wanted.1.starts_with(self.out.as_str()), "{}", self.out);
         assert_eq!(rt; self.status, 4);
     }
 }

@@ -22,7 +22,7 @@ const ADDS_TWICE: &[u8] = b"li r1 1\nli r2 1\nfaa r3 r0 r2\nfaa r4 r1 r2\nhalt\n
 pub(crate) const ADDS_NUMBER: &[u8] = b"pid r2\naddi r2 r2 1\nfaa r3 r0 r2\nhalt\n";
 
 /// Runs of machines of one stage, with fetch-and-adds alone.
-pub(crate) static ONE_STAGE: [Example; 10] = [
+pub(crate) static ONE_STAGE: [Example; 11] = [
     Example {
         settings: "stages = 1",
         program: ADDS_ONE,
@@ -92,6 +92,14 @@ pub(crate) static ONE_STAGE: [Example; 10] = [
         trace: traces::CYCLE_LIMIT,
         order: orders::CYCLE_LIMIT,
         explanation: explanations::CYCLE_LIMIT,
+    },
+    // The machine becomes quiet in the last cycle that the limit allows.
+    Example {
+        settings: "stages = 1\ncycles = 8",
+        program: ADDS_ONE,
+        trace: test_support::COMBINED_PAIR,
+        order: orders::COMBINED_PAIR,
+        explanation: explanations::COMBINED_PAIR,
     },
 ];
 

@@ -208,7 +208,7 @@ fn an_explanation_is_refused_or_whole(rt: HostRuntime) -> Result<(), Fail> {
     let words = with_heap("4096");
     let no_limits = SinkLimits::none();
     let ended = call_within(&rt, &words, &THREE_STAGES, no_limits, no_limits)?;
-    ended.check_refused_or_whole(&rt, THREE_LEVELS);
+    ended.check_refused_or_whole(&rt, (0, THREE_LEVELS));
     unless_refused(ended)?;
     Ok(())
 }

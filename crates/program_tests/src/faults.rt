@@ -49,27 +49,83 @@ conf = \"d.toml\"
 prog = \"q.s\"
 ";
 
-/// The files that the commands read.
-static FILES: [(&str, &[u8]); 5] = [
+/// The files that the commands read. `legal` is a serial order of the run of `c.toml` and `p.s`,
+/// and `illegal` lacks an entry of it.
+static FILES: [(&str, &[u8]); 9] = [
     ("c.toml", b"stages = 1"),
     ("p.s", ADDS_ONE),
     ("jobs.toml", JOBS),
     ("d.toml", b"stages = 1\ncycles = 2"),
     ("q.s", b"halt\n"),
+    ("legal", b"1.0 faa 0 1 = 0\n0.0 faa 0 1 = 1\n"),
+    ("illegal", b"1.0 faa 0 1 = 0\n"),
+    ("schedule", b"0 0 0 1 1 1"),
+    ("careful.s", b"ld r1 r0\nfence\n"),
 ];
 
-/// The words of each command, with the paths that it reads, in their order.
-static COMMANDS: [(&[&str], &[&str]); 7] = [
-    (&["ultra", "run", "c.toml", "p.s"], &["c.toml", "p.s"]),
+/// The words of each command, with the paths that it reads, in their order, and its status.
+static COMMANDS: [(&[&str], &[&str], u8); 17] = [
+    (&["ultra", "run", "c.toml", "p.s"], &["c.toml", "p.s"], 0),
     (
         &["ultra", "run", "c.toml", "p.s", "--workers", "3"],
         &["c.toml", "p.s"],
+        0,
     ),
-    (&["ultra", "order", "c.toml", "p.s"], &["c.toml", "p.s"]),
-    (&["ultra", "explain", "c.toml", "p.s"], &["c.toml", "p.s"]),
-    (&["ultra", "list", "p.s"], &["p.s"]),
-    (&SWEEP, &["jobs.toml", "c.toml", "p.s", "d.toml", "q.s"]),
-    (&["ultra", "lib", "gate", "2", "10"], &[]),
+    (
+        &[
+            "ultra", "run", "c.toml", "p.s", "--from", "3", "--to", "5", "--only", "events",
+        ],
+        &["c.toml", "p.s"],
+        0,
+    ),
+    (&["ultra", "events", "c.toml", "p.s"], &["c.toml", "p.s"], 0),
+    (
+        &["ultra", "requests", "c.toml", "p.s"],
+        &["c.toml", "p.s"],
+        0,
+    ),
+    (
+        &["ultra", "measure", "c.toml", "p.s"],
+        &["c.toml", "p.s"],
+        0,
+    ),
+    (&["ultra", "order", "c.toml", "p.s"], &["c.toml", "p.s"], 0),
+    (
+        &["ultra", "explain", "c.toml", "p.s"],
+        &["c.toml", "p.s"],
+        0,
+    ),
+    (
+        &["ultra", "check", "c.toml", "p.s", "legal"],
+        &["c.toml", "p.s", "legal"],
+        0,
+    ),
+    (
+        &["ultra", "check", "c.toml", "p.s", "illegal"],
+        &["c.toml", "p.s", "illegal"],
+        1,
+    ),
+    (
+        &["ultra", "para", "c.toml", "p.s", "schedule"],
+        &["c.toml", "p.s", "schedule"],
+        0,
+    ),
+    (
+        &[
+            "ultra", "para", "c.toml", "p.s", "--seed", "1", "--only", "end",
+        ],
+        &["c.toml", "p.s"],
+        0,
+    ),
+    (&["ultra", "list", "p.s"], &["p.s"], 0),
+    (
+        &["ultra", "list", "--careful", "careful.s"],
+        &["careful.s"],
+        0,
+    ),
+    (&SWEEP, &SWEEP_PATHS, 0),
+    (&["ultra", "lib", "gate", "2", "10"], &[], 0),
+    (&["ultra", "lib", "tickets", "3"], &[], 0),
 ];
 
 const SWEEP: [&str; 7] = [
@@ -82,6 +138,19 @@ const SWEEP: [&str; 7] = [
     "2",
 ];
 
+/// The paths that a sweep of the jobs reads, in their order.
+const SWEEP_PATHS: [&str; 5] = ["jobs.toml", "c.toml", "p.s", "d.toml", "q.s"];
+
+/// A sweep that writes measures. Its table is too long for each byte of it to fail in turn.
+static MEASURED_SWEEP: [&str; 6] = [
+    "ultra",
+    "sweep",
+    "jobs.toml",
+    "--measure",
+    "--workers=2",
+    "--at-once=2",
+];
+
 /// Calls the program over the files, with streams of these limits. Where memory or a thread was
 /// refused, that is the error here.
 fn call<R: Host>(rt: &R, words: &[&str], out: SinkLimits, err: SinkLimits) -> Result<Ended, Fail> {
@@ -92,10 +161,10 @@ fn call<R: Host>(rt: &R, words: &[&str], out: SinkLimits, err: SinkLimits) -> Re
     Ok(ended)
 }
 
-/// What the words write to standard output.
-fn text_of<R: Host>(rt: &R, words: &[&str]) -> Result<String, Fail> {
+/// What the words write to standard output, where they have this status.
+fn text_of<R: Host>(rt: &R, words: &[&str], wanted: u8) -> Result<String, Fail> {
     let Ended { status, out, err } = call(rt, words, SinkLimits::none(), SinkLimits::none())?;
-    assert_eq!(rt; status, 0, "{words:?}");
+    assert_eq!(rt; status, wanted, "{words:?}");
     assert!(rt; err.is_empty());
     Ok(out)
 }
@@ -122,35 +191,50 @@ fn check_write<R: Host>(rt: &R, words: &[&str], text: &str, count: usize) -> Res
     Ok(())
 }
 
-/// Asserts that words write this whole text, a byte at a time, where no write fails.
-fn check_whole<R: Host>(rt: &R, words: &[&str], text: &str) -> Result<(), Fail> {
-    let out = SinkLimits::failing_once_after(text.len());
-    call(rt, words, out, SinkLimits::none())?.check(rt, (0, text, ""));
+/// Asserts this status, and that words write this whole text, a byte at a time, where no write
+/// fails.
+fn check_whole<R: Host>(rt: &R, words: &[&str], wanted: (u8, &str)) -> Result<(), Fail> {
+    let out = SinkLimits::failing_once_after(wanted.1.len());
+    call(rt, words, out, SinkLimits::none())?.check(rt, (wanted.0, wanted.1, ""));
     Ok(())
 }
 
-/// Asserts that each write of a text may be the one that fails.
-fn check_writes<R: Host>(rt: &R, words: &[&str]) -> Result<(), Fail> {
-    let text = text_of(rt, words)?;
+/// Asserts that each write of a text may be the one that fails, and that the status is this one
+/// where none does.
+fn check_writes<R: Host>(rt: &R, words: &[&str], wanted: u8) -> Result<(), Fail> {
+    let text = text_of(rt, words, wanted)?;
     for count in 0..text.len() {
         check_write(rt, words, text.as_str(), count)?;
     }
-    check_whole(rt, words, text.as_str())
+    check_whole(rt, words, (wanted, text.as_str()))
 }
 
 #[test]
 fn each_write_fails_in_turn(rt: HostRuntime) -> Result<(), Fail> {
-    for (words, _) in &COMMANDS {
-        check_writes(&rt, words)?;
+    for (words, _, status) in &COMMANDS {
+        check_writes(&rt, words, *status)?;
     }
     Ok(())
 }
 
 #[test]
 fn each_write_of_a_help_text_fails_in_turn(rt: HostRuntime) -> Result<(), Fail> {
-    check_writes(&rt, &["ultra", "--help"])?;
-    check_writes(&rt, &["ultra", "sweep", "--help"])?;
-    check_writes(&rt, &["ultra", "--version"])
+    check_writes(&rt, &["ultra", "--help"], 0)?;
+    check_writes(&rt, &["ultra", "sweep", "--help"], 0)?;
+    check_writes(&rt, &["ultra", "--version"], 0)
+}
+
+/// Standard output takes at most 100 bytes a write, and fails before the whole table is written.
+#[test]
+fn a_prefix_of_the_measures_of_a_sweep_is_written(rt: HostRuntime) -> Result<(), Fail> {
+    let table = text_of(&rt, &MEASURED_SWEEP, 0)?;
+    assert!(rt; table.len() > 1200);
+    for sound_writes in 0..13 {
+        let out = SinkLimits::taking_at_most(100).failing_after(sound_writes);
+        let ended = call(&rt, &MEASURED_SWEEP, out, SinkLimits::none())?;
+        ended.check_cut(&rt, table.as_str());
+    }
+    Ok(())
 }
 
 /// Asserts that the write to standard error after the first `count` writes may be the one that
@@ -221,26 +305,35 @@ fn check_progress_fails<R: Host>(rt: &R, report: &str, count: usize) -> Result<(
 /// Both streams fail at their first write, and so do the lines of progress.
 #[test]
 fn a_status_is_that_of_standard_output(rt: HostRuntime) -> Result<(), Fail> {
-    for (words, _) in &COMMANDS {
+    for (words, _, _) in &COMMANDS {
         check_both_fail(&rt, words)?;
     }
-    let report = text_of(&rt, &SWEEP)?;
+    check_both_fail(&rt, &MEASURED_SWEEP)?;
+    let report = text_of(&rt, &SWEEP, 0)?;
     for count in 0..60 {
         check_progress_fails(&rt, report.as_str(), count)?;
     }
     Ok(())
 }
 
-/// Each call for memory or for a thread is refused in turn. A command then gives its full answer,
-/// or a prefix of it and a line that says what was refused.
+/// Asserts that words give their full answer with this status, or a prefix of the answer and a line
+/// that says what was refused.
+fn check_answer<R: Host>(rt: &R, words: &[&str], wanted: u8) -> Result<(), Fail> {
+    let text = text_of(rt, words, wanted)?;
+    let ended = call_within(rt, words, &FILES, SinkLimits::none(), SinkLimits::none())?;
+    ended.check_refused_or_whole(rt, (wanted, text.as_str()));
+    Ok(())
+}
+
+/// Where memory or a thread is refused, a command gives its full answer, or a prefix of it and a
+/// line that says what was refused. This compares the program with itself. So it can only fail
+/// where memory or a thread is refused from outside, as by `tests/refuse_memory`.
 #[test]
 fn a_command_is_refused_or_whole(rt: HostRuntime) -> Result<(), Fail> {
-    for (words, _) in &COMMANDS {
-        let text = text_of(&rt, words)?;
-        let ended = call_within(&rt, words, &FILES, SinkLimits::none(), SinkLimits::none())?;
-        ended.check_refused_or_whole(&rt, text.as_str());
+    for (words, _, status) in &COMMANDS {
+        check_answer(&rt, words, *status)?;
     }
-    Ok(())
+    check_answer(&rt, &MEASURED_SWEEP, 0)
 }
 
 /// Calls the program, whose read after `sound_reads` reads fails. It writes nothing to standard
@@ -310,8 +403,8 @@ fn check_reads<'w, R: Host>(rt: &R, words: &'w [&'w str], paths: &[&str]) -> Res
 
 #[test]
 fn each_read_fails_in_turn(rt: HostRuntime) -> Result<(), Fail> {
-    for (words, paths) in &COMMANDS {
+    for (words, paths, _) in &COMMANDS {
         check_reads(&rt, words, paths)?;
     }
-    Ok(())
+    check_reads(&rt, &MEASURED_SWEEP, &SWEEP_PATHS)
 }

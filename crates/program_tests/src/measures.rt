@@ -3,17 +3,8 @@
 use crate::answers::{Answer, check_answers};
 use std::test::Fail;
 
-/// Measures.
-static MEASURES: [Answer; 5] = [
-    Answer {
-        words: &["ultra", "measure", "c.toml", "p.s"],
-        files: &[
-            ("c.toml", b"stages = 1\n"),
-            ("p.s", b"li r1 0\nli r2 1\nfaa r3 r1 r2\nhalt\n"),
-        ],
-        wanted: (
-            0,
-            "\
+/// The measures of a run in which two processing elements add 1 each to cell 0.
+const COMBINED_PAIR: &str = "\
 stages 1
 pes 2
 request_places 4
@@ -48,9 +39,26 @@ reply_queue_most_0 1
 records_sum_0 3
 records_most_0 1
 full_waits_0 0
-",
-            "",
-        ),
+";
+
+/// Measures.
+static MEASURES: [Answer; 6] = [
+    Answer {
+        words: &["ultra", "measure", "c.toml", "p.s"],
+        files: &[
+            ("c.toml", b"stages = 1\n"),
+            ("p.s", b"li r1 0\nli r2 1\nfaa r3 r1 r2\nhalt\n"),
+        ],
+        wanted: (0, COMBINED_PAIR, ""),
+    },
+    // The machine becomes quiet in the last cycle that the limit allows.
+    Answer {
+        words: &["ultra", "measure", "c.toml", "p.s"],
+        files: &[
+            ("c.toml", b"stages = 1\ncycles = 8\n"),
+            ("p.s", b"li r1 0\nli r2 1\nfaa r3 r1 r2\nhalt\n"),
+        ],
+        wanted: (0, COMBINED_PAIR, ""),
     },
     Answer {
         words: &["ultra", "measure", "c.toml", "p.s", "--csv"],

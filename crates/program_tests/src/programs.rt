@@ -176,7 +176,7 @@ fn longest_program_is_listed(rt: HostRuntime) -> Result<(), Fail> {
 }
 
 /// Settings that are refused, with the lines that say why.
-static REFUSED_SETTINGS: [(&str, &str); 20] = [
+static REFUSED_SETTINGS: [(&str, &str); 24] = [
     ("stages = ", "ultra: c.toml: not toml\n"),
     ("stages = \"1\"", "ultra: c.toml: bad stages\n"),
     ("stages = 1\nextra = 1", "ultra: c.toml: unknown key\n"),
@@ -201,6 +201,14 @@ static REFUSED_SETTINGS: [(&str, &str); 20] = [
         "ultra: c.toml: bad request_places\n",
     ),
     (
+        "stages = 1\nrequest_places = 33",
+        "ultra: c.toml: bad request_places\n",
+    ),
+    (
+        "stages = 1\nreply_places = 3",
+        "ultra: c.toml: bad reply_places\n",
+    ),
+    (
         "stages = 1\nreply_places = 65",
         "ultra: c.toml: bad reply_places\n",
     ),
@@ -208,7 +216,9 @@ static REFUSED_SETTINGS: [(&str, &str); 20] = [
         "stages = 1\nwait_places = -1",
         "ultra: c.toml: bad wait_places\n",
     ),
+    ("stages = 1\nopen = 0", "ultra: c.toml: bad open\n"),
     ("stages = 1\nopen = 9", "ultra: c.toml: bad open\n"),
+    ("stages = 1\ncells = 0", "ultra: c.toml: bad cells\n"),
     ("stages = 1\ncells = 4097", "ultra: c.toml: bad cells\n"),
     ("stages = 1\ncycles = 1.5", "ultra: c.toml: bad cycles\n"),
     (
@@ -430,11 +440,16 @@ fn check_answer<R: Host>(rt: &R, words: &[&str], parts: &[&str]) -> Result<(), F
 }
 
 /// Parts of the help for the program.
-static HELP_PARTS: [&str; 7] = [
+static HELP_PARTS: [&str; 12] = [
     "Usage: ultra",
     "\n  run ",
+    "\n  events ",
+    "\n  requests ",
+    "\n  measure ",
     "\n  order ",
     "\n  explain ",
+    "\n  check ",
+    "\n  para ",
     "\n  list ",
     "\n  sweep ",
     "\n  lib ",

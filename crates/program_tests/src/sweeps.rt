@@ -21,14 +21,14 @@ prog = \"add.s\"
 
 /// Does what the words ask for, with this file of jobs. Where memory or a thread was refused,
 /// nothing is written, and that is the error here.
-fn sweep<R: Host>(rt: &R, words: &[&str], jobs: &str, out: SinkLimits) -> Result<Ended, Fail> {
+fn sweep<R: Host>(rt: &R, words: &[&str], jobs: &str) -> Result<Ended, Fail> {
     let files: [(&str, &[u8]); 4] = [
         ("jobs.toml", jobs.as_bytes()),
         ("c.toml", b"stages = 1"),
         ("halt.s", b"halt\n"),
         ("add.s", ADDS_ONE),
     ];
-    let ended = call_within(rt, words, &files, out, SinkLimits::none())?;
+    let ended = call_within(rt, words, &files, SinkLimits::none(), SinkLimits::none())?;
     if ended.status == 4 {
         assert!(rt; ended.out.is_empty());
         assert!(rt; ends_with_refusal(ended.err.as_str()));
@@ -68,7 +68,7 @@ fn check_sweep<R: Host>(
     jobs: &str,
     wanted: (u8, &str, &str),
 ) -> Result<(), Fail> {
-    sweep(rt, words, jobs, SinkLimits::none())?.check(rt, wanted);
+    sweep(rt, words, jobs)?.check(rt, wanted);
     Ok(())
 }
 
@@ -106,7 +106,7 @@ fn check_progress<R: Host>(rt: &R, workers: &str, report: &str) -> Result<(), Fa
         "--at-once",
         "2",
     ];
-    let ended = sweep(rt, &words, TWO_JOBS, SinkLimits::none())?;
+    let ended = sweep(rt, &words, TWO_JOBS)?;
     let last = "ultra: 2 of 2 jobs\n";
     let both = "ultra: 1 of 2 jobs\nultra: 2 of 2 jobs\n";
     let shown = if ended.err.as_str() == last {
@@ -198,7 +198,7 @@ fn a_file_of_jobs_that_is_not_there_is_named(rt: HostRuntime) -> Result<(), Fail
 
 /// Words of a sweep that are a usage fault, each with what its text says. Both options are
 /// required, and are from 1 to 64.
-static WRONG_WORDS: [(&[&str], &str); 6] = [
+static WRONG_WORDS: [(&[&str], &str); 8] = [
     (&["ultra", "sweep", "jobs.toml"], "--workers <H>"),
     (
         &["ultra", "sweep", "jobs.toml", "--workers", "1"],
@@ -211,6 +211,18 @@ static WRONG_WORDS: [(&[&str], &str); 6] = [
     (
         &["ultra", "sweep", "--workers", "1", "--at-once", "1"],
         "<JOBS>",
+    ),
+    (
+        &[
+            "ultra",
+            "sweep",
+            "jobs.toml",
+            "--workers",
+            "0",
+            "--at-once",
+            "1",
+        ],
+        "'--workers <H>'",
     ),
     (
         &[
@@ -236,24 +248,24 @@ static WRONG_WORDS: [(&[&str], &str); 6] = [
         ],
         "'--at-once <B>'",
     ),
+    (
+        &[
+            "ultra",
+            "sweep",
+            "jobs.toml",
+            "--workers",
+            "1",
+            "--at-once",
+            "65",
+        ],
+        "'--at-once <B>'",
+    ),
 ];
 
 #[test]
 fn wrong_words_of_a_sweep_are_usage_faults(rt: HostRuntime) -> Result<(), Fail> {
     for (words, text) in &WRONG_WORDS {
         check_usage_fault(&rt, words, text)?;
-    }
-    Ok(())
-}
-
-/// Where standard output fails, a prefix of the report was written.
-#[test]
-fn a_prefix_of_a_report_is_written(rt: HostRuntime) -> Result<(), Fail> {
-    let report = report_of_two(rt.alloc())?;
-    for sound_writes in 0..8 {
-        let out = SinkLimits::taking_at_most(30).failing_after(sound_writes);
-        let ended = sweep(&rt, &words_of("2", "1"), TWO_JOBS, out)?;
-        ended.check_cut(&rt, report.as_str());
     }
     Ok(())
 }

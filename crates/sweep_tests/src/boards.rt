@@ -11,7 +11,8 @@ use ultra_board::{Board, BoardFault, Seat, Totals};
 /// Splits a seat of more than one place.
 pub(crate) fn split<R: Abort>(rt: &R, board: &Board, seat: Seat) -> (Seat, Seat)
     requires { seat.board ≡ board.now.id }
-    ensures first { result.0 ≡ record seat { view = record seat.view { places = seat.view.places - 1 } } }
+    ensures first { result.0 ≡
+        record seat { view = record seat.view { places = seat.view.places - 1 } } }
     ensures second { result.1 ≡ record seat { view = second_view seat.view } }
 {
     match board.split(seat) {
@@ -23,8 +24,10 @@ pub(crate) fn split<R: Abort>(rt: &R, board: &Board, seat: Seat) -> (Seat, Seat)
 /// A board of three numbers and one pass, with two seats of one place each.
 fn board_of_two<R: Abort + AllocGlobal>(rt: &R) -> Result<(Board, Seat, Seat), BoardFault>
     ensures seats { IfOk result (λ b. b.0.limits.seats ≡ 2) }
-    ensures first { IfOk result (λ b. b.1 ≡ record { board = b.0.id; view = record (first_view b.0.limits) { places = 1 } }) }
-    ensures second { IfOk result (λ b. b.2 ≡ record { board = b.0.id; view = second_view (first_view b.0.limits) }) }
+    ensures first { IfOk result (λ b.
+        b.1 ≡ record { board = b.0.id; view = record (first_view b.0.limits) { places = 1 } }) }
+    ensures second { IfOk result (λ b.
+        b.2 ≡ record { board = b.0.id; view = second_view (first_view b.0.limits) }) }
 {
     let (board, seat) = Board::open(rt.alloc(), 3, 1, 2)?;
     let (first, second) = split(rt, &board, seat);

@@ -1,7 +1,7 @@
 //! Sweeps that give measures. The expected rows are those of another simulator.
 
-use crate::jobs::two_jobs;
-use crate::sweeps::sweep_by_two;
+use crate::jobs::{several_cells, two_jobs};
+use crate::sweeps::{check_cut, sweep_by_two};
 use std::process::Abort;
 use std::sync::Wait;
 use std::test::Fail;
@@ -42,6 +42,12 @@ const THREE_CYCLES_EACH: &str = "\
 1,1,2,4,8,4,2,16,6,8,quiet,0,2,0,0,0,0,5,5,5.000,0,0,2,0,0,0,0,0,0,0,2,1,0,0,0,,,,,,,,,,,,,,,,,,,,,,,,,,,,,,,,,,,,,,,,\n\
 ";
 
+/// The row of a job with a fault, in which several cells are open at once.
+const SEVERAL_OPEN_CELLS: &str = "\
+0,1,2,2,4,2,8,4,0,20,quiet,9,9,7,2,1,6,5,9,6.888,21,4,62,21,2,7,11,2,8,2,9,1,6,2,1,\
+,,,,,,,,,,,,,,,,,,,,,,,,,,,,,,,,,,,,,,,\n\
+";
+
 /// Asserts that two threads, which run `at_once` jobs at once, make this table of the jobs.
 fn check_table<R: Threads + Wait + Sync + Abort + AllocGlobal>(
     rt: &R,
@@ -71,6 +77,14 @@ fn whole_runs(rt: HostRuntime) -> Result<(), Fail> {
     Ok(())
 }
 
+/// The latencies differ, their mean is rounded down, and acts of two modules are counted.
+#[test]
+fn several_open_cells(rt: HostRuntime) -> Result<(), Fail> {
+    let jobs = several_cells(rt.alloc())?;
+    let output = SweepOutput::Measures { every: None };
+    check_table(&rt, jobs.as_slice(), &output, 1, SEVERAL_OPEN_CELLS)
+}
+
 /// The words of a sweep whose windows have three cycles.
 const EVERY_THREE: [&str; 10] = [
     "ultra",
@@ -97,7 +111,8 @@ fn windows_of_three_cycles(rt: HostRuntime) -> Result<(), Fail> {
     }
 }
 
-/// A table into a sink that fails at each of its writes in turn.
+/// The table into a sink that takes a byte a write. Where one of its writes fails, it has taken the
+/// bytes before, and none after; where none fails, it has taken the whole table.
 #[test]
 fn table_into_a_failing_sink(rt: HostRuntime) -> Result<(), Fail> {
     let jobs = two_jobs(rt.alloc())?;
@@ -105,14 +120,18 @@ fn table_into_a_failing_sink(rt: HostRuntime) -> Result<(), Fail> {
     let results = sweep_by_two(&rt, jobs.as_slice(), 1, &OutputGate::new(&output))?;
     let gathered = gather(rt.alloc(), 2, results)?;
     let wanted = format!(in rt.alloc(); "{NAMES}{WHOLE_RUNS}")?;
-    for count in 0..20 {
-        let limits = SinkLimits::taking_at_most(7).failing_after(count);
+    for count in [0, 1, 3, 4, 5, 500, 1020, 1021, 1022, 1100, 1252] {
+        let limits = SinkLimits::failing_once_after(count);
         let mut out = MemorySink::with_limits(rt.alloc(), limits)?;
         assert!(rt;
             write_job_table(&gathered, measure_names(), &mut out).is_err(),
             "after {count}"
         );
-        assert!(rt; wanted.as_str().starts_with(out.text()?), "after {count}");
+        check_cut(&rt, &out, wanted.as_str(), count)?;
     }
+    let limits = SinkLimits::failing_once_after(wanted.as_str().len());
+    let mut out = MemorySink::with_limits(rt.alloc(), limits)?;
+    write_job_table(&gathered, measure_names(), &mut out)?;
+    assert_eq!(rt; out.text()?, wanted.as_str());
     Ok(())
 }

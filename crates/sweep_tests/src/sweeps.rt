@@ -164,16 +164,34 @@ fn jobs_meet(rt: HostRuntime) -> Result<(), Fail> {
     Ok(())
 }
 
-/// A sink that fails at each of its writes in turn has taken a prefix of the report.
+/// Asserts that one write of a sink failed, and that it had taken this many bytes of a text.
+pub(crate) fn check_cut<R: Abort>(
+    rt: &R,
+    out: &MemorySink,
+    text: &str,
+    count: usize,
+) -> Result<(), Fail> {
+    assert_eq!(rt; out.failures, 1, "after {count}");
+    assert_eq!(rt; out.bytes.len(), count);
+    assert!(rt; text.starts_with(out.text()?), "after {count}");
+    Ok(())
+}
+
+/// The report into a sink that takes a byte a write. Where one of its writes fails, it has taken
+/// the bytes before, and none after; where none fails, it has taken the whole report.
 #[test]
 fn report_into_a_failing_sink(rt: HostRuntime) -> Result<(), Fail> {
     let jobs = two_jobs(rt.alloc())?;
     let gathered = gather(rt.alloc(), 2, sweep_alone(&rt, jobs.as_slice())?)?;
-    for count in 0..20 {
-        let limits = SinkLimits::taking_at_most(7).failing_after(count);
+    for count in [0, 1, 4, 5, 6, 7, 70, 71, 77, 200, 300, 466] {
+        let limits = SinkLimits::failing_once_after(count);
         let mut out = MemorySink::with_limits(rt.alloc(), limits)?;
         assert!(rt; report(&gathered, &mut out).is_err(), "after {count}");
-        assert!(rt; REPORT.starts_with(out.text()?), "after {count}");
+        check_cut(&rt, &out, REPORT, count)?;
     }
+    let limits = SinkLimits::failing_once_after(REPORT.len());
+    let mut out = MemorySink::with_limits(rt.alloc(), limits)?;
+    report(&gathered, &mut out)?;
+    assert_eq!(rt; out.text()?, REPORT);
     Ok(())
 }

@@ -51,8 +51,8 @@ impl SinkLimits {
         }
     }
 
-    /// A sink that takes one byte a write. After this many writes it fails once, and would then take
-    /// more.
+    /// A sink that takes one byte a write. After this many writes it fails once, and would then
+    /// take more.
     pub fn failing_once_after(sound_writes: usize) -> SinkLimits {
         SinkLimits {
             most: 1,

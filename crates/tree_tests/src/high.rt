@@ -5,9 +5,10 @@ use linked_list_allocator::LocalHeap;
 use std::alloc::Allocator;
 use std::process::Abort;
 use std::test::Fail;
+use test_sinks::MemorySink;
 use ultra_model::Config;
 use ultra_msg::{Op, Pe};
-use ultra_tree::{Explainer, Leaf, Tree, height, leaves};
+use ultra_tree::{Explainer, Leaf, Tree, height, leaves, write_tree};
 
 /// Absorbs the first request of processing element 0, and this many of processing element 1, which
 /// issues anew as soon as its request has combined.
@@ -31,15 +32,49 @@ fn high_tree<A: Allocator + Clone>(
     serve(rt, &mut explainer, 0, 1)
 }
 
+/// Asserts that a tree has 2,000 levels and 2,001 leaves, and which of these come first and last in
+/// the serial order.
+fn check_high_leaves<R: Abort + AllocGlobal, A: Allocator>(
+    rt: &R,
+    tree: &Tree<A>,
+    first: Leaf,
+    last: Leaf,
+) -> Result<(), Fail> {
+    assert_eq!(rt; height(tree), 2000);
+    let all = leaves(rt.alloc(), tree)?;
+    assert_eq!(rt; all.len(), 2001);
+    assert_eq!(rt; all.first().copied(), Some(first));
+    assert_eq!(rt; all.last().copied(), Some(last));
+    Ok(())
+}
+
+/// Asserts the length of the text of a tree, and its beginning and end.
+fn check_long_text<R: Abort + AllocGlobal, A: Allocator>(
+    rt: &R,
+    tree: &Tree<A>,
+    length: usize,
+    beginning: &str,
+    end: &str,
+) -> Result<(), Fail> {
+    let mut sink = MemorySink::new(rt.alloc())?;
+    assert!(rt; write_tree(tree, &mut sink).is_ok());
+    assert_eq!(rt; sink.bytes.len(), length);
+    assert!(rt; sink.text()?.starts_with(beginning));
+    assert!(rt; sink.text()?.ends_with(end));
+    Ok(())
+}
+
+/// A tree of 2,000 levels, high at its old parts. It shows what the walks answer, not that they
+/// need no stack. They take a step for each pair above each leaf, so a tree that is too high for a
+/// recursive walk would take too long.
 #[test]
 fn a_high_tree(rt: HostRuntime) -> Result<(), Fail> {
     let heap = LocalHeap::new(rt.alloc(), 1 << 20)?;
-    let tree = high_tree(&rt, &settings(&rt, 2)?, &heap, 1000);
-    assert_eq!(&rt; height(&tree), 1000);
-    let all = leaves(rt.alloc(), &tree)?;
-    assert_eq!(&rt; all.len(), 1001);
-    assert_eq!(&rt; all.last().map(|leaf| leaf.number), Some(999));
-    Ok(())
+    let tree = high_tree(&rt, &settings(&rt, 2)?, &heap, 2000);
+    check_high_leaves(&rt, &tree, leaf(0, 0), leaf(1, 1999))?;
+    let heads = "[s0x0 ".repeat(rt.alloc(), 2000)?;
+    let end = " < 1.1997] < 1.1998] < 1.1999]";
+    check_long_text(&rt, &tree, 30_893, heads.as_str(), end)
 }
 
 /// A drop that called itself for each level would need more stack than there is.
@@ -72,6 +107,20 @@ fn a_tree_that_is_high_at_its_new_parts_is_dropped(rt: HostRuntime) -> Result<()
     assert!(&rt; explainer.tree_of(0, 0).is_none());
     drop(tree);
     Ok(())
+}
+
+/// A tree of 2,000 levels, high at its new parts: all pairs close behind the last leaf.
+#[test]
+fn a_tree_that_is_high_at_its_new_parts(rt: HostRuntime) -> Result<(), Fail> {
+    let heap = LocalHeap::new(rt.alloc(), 1 << 20)?;
+    let settings = settings(&rt, 2)?;
+    let mut explainer = Explainer::new(&settings, &heap).expect(&rt, "no memory");
+    grow_at_new(&rt, &mut explainer, 2000);
+    let tree = serve(&rt, &mut explainer, 0, 1);
+    check_high_leaves(&rt, &tree, leaf(0, 1999), leaf(0, 0))?;
+    let beginning = "[s0x0 0.1999 < [s0x0 1.1998 < [s0x0 0.1997 < ";
+    let end = "]".repeat(rt.alloc(), 2000)?;
+    check_long_text(&rt, &tree, 30_893, beginning, end.as_str())
 }
 
 /// A request that adds 1.

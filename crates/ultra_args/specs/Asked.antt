@@ -16,8 +16,8 @@ use Rattle.ultra_args.specs.declared.Invocation.{Invocation}
 use Rattle.ultra_args.specs.declared.Invocation.TheVariants as command
 use Rattle.ultra_args.specs.declared.LineFilter.{LineFilter}
 use Rattle.ultra_args.specs.declared.LineFilter.TheVariants.{All, Events, End}
-use Rattle.ultra_args.specs.declared.ScheduleOf.{ScheduleOf}
-use Rattle.ultra_args.specs.declared.ScheduleOf.TheVariants.{File, Seed}
+use Rattle.ultra_args.specs.declared.ScheduleSource.{ScheduleSource}
+use Rattle.ultra_args.specs.declared.ScheduleSource.TheVariants.{File, Seed}
 use Rattle.ultra_args.specs.declared.sweep_output.SweepOutput.{SweepOutput}
 use Rattle.ultra_args.specs.declared.sweep_output.SweepOutput.TheVariants.{Report, Measures}
 use Rattle.ultra_args.specs.declared.Coordination.{Coordination}
@@ -53,7 +53,7 @@ pub data Asked : Type 0 where
   sweep : Text → ℕ → ℕ → Bool → SweepOutput → Asked
   lib : Coordination → Asked
 
-abbrev pub schedule_of : ScheduleOf → Schedule
+abbrev pub schedule_of : ScheduleSource → Schedule
 schedule_of (File path) = by_file path.now
 schedule_of (Seed seed steps) = by_seed seed steps
 
@@ -140,7 +140,8 @@ with_run rows next = with_text arg.CONF rows (λ conf. with_text arg.PROG rows (
 
 -- the first and the last cycle that are shown
 abbrev pub cycles_in : List Row → Option (ℕ × ℕ)
-cycles_in rows = option_and_then (λ from. option_map (λ to. (from, to)) (argument_number arg.TO rows))
+cycles_in rows =
+    option_and_then (λ from. option_map (λ to. (from, to)) (argument_number arg.TO rows))
     (argument_number arg.FROM rows)
 
 abbrev pub line_filter : List Row → Option LineFilter
@@ -161,7 +162,8 @@ schedule _ _ _ = None
 
 abbrev pub schedule_in : List Row → Option Schedule
 schedule_in rows =
-    schedule (argument_text arg.SCHEDULE rows) (argument_number arg.SEED rows) (argument_number arg.STEPS rows)
+    schedule (argument_text arg.SCHEDULE rows) (argument_number arg.SEED rows)
+    (argument_number arg.STEPS rows)
 
 -- windows only of measures
 abbrev pub output : Bool → Option ℕ → Option SweepOutput
@@ -173,20 +175,20 @@ abbrev pub output_in : List Row → Option SweepOutput
 output_in rows = output (argument_flag arg.MEASURES rows) (argument_number arg.EVERY rows)
 
 -- the coordination programs of two numbers, and of one
-abbrev pub sized : Text → ℕ → ℕ → Option Coordination
-sized name size rounds = if bytes_eq name (codes "gate") then Some (Gate size rounds)
+abbrev pub program_with_size : Text → ℕ → ℕ → Option Coordination
+program_with_size name size rounds = if bytes_eq name (codes "gate") then Some (Gate size rounds)
     else (if bytes_eq name (codes "queue") then Some (Queue size rounds)
     else (if bytes_eq name (codes "rw") then Some (ReadersWriters size rounds) else None))
 
-abbrev pub sizeless : Text → ℕ → Option Coordination
-sizeless name rounds = if bytes_eq name (codes "barrier") then Some (Barrier rounds)
+abbrev pub program_without_size : Text → ℕ → Option Coordination
+program_without_size name rounds = if bytes_eq name (codes "barrier") then Some (Barrier rounds)
     else (if bytes_eq name (codes "tickets") then Some (Tickets rounds) else None)
 
 abbrev pub coordination : Text → List Text → Option Coordination
 coordination name [] = None
-coordination name (t ∷ []) = option_and_then (sizeless name) (decimal t)
+coordination name (t ∷ []) = option_and_then (program_without_size name) (decimal t)
 coordination name (z ∷ t ∷ []) =
-    option_and_then (λ size. option_and_then (sized name size) (decimal t)) (decimal z)
+    option_and_then (λ size. option_and_then (program_with_size name size) (decimal t)) (decimal z)
 coordination name (z ∷ t ∷ x ∷ rest) = None
 
 -- what a command is asked for
@@ -230,18 +232,18 @@ named word rows = option_and_then (λ command. asked_in command rows) (command_n
 abbrev pub named_in : Option (Text × List Row) → Option Asked
 named_in = option_and_then (λ p. named p.0 p.1)
 
--- ---- words
+-- ---- arguments
 
--- what the words ask for; the first is the program's name
+-- what the arguments ask for; the first is the program's name
 abbrev pub asked : List Text → Option Asked
 asked words = named_in (subcommand_of ultra_app words)
 
--- what is wrong with the words: `clap` refuses them so, or what it accepted asks for nothing
+-- what is wrong with the arguments: `clap` refuses them so, or what it accepted asks for nothing
 abbrev pub IsFault : List Text → ErrorKind → Type 0
 IsFault words k = IsAmong k (fault_of ultra_app words)
     ⊎ ((k ≡ kind.ValueValidation) × (fault_of ultra_app words ≡ []) × (asked words ≡ None))
 
--- a text of this kind is the answer: help, the version, or what is wrong with the words
+-- a text of this kind is the answer: help, the version, or what is wrong with the arguments
 abbrev pub IsTextOfKind : ErrorKind → Parsed → Type 0
 IsTextOfKind k (parsed.Invocation c) = ⊥
 IsTextOfKind k (parsed.Help text) = k ≡ kind.DisplayHelp
@@ -249,16 +251,16 @@ IsTextOfKind k (parsed.Version text) = k ≡ kind.DisplayVersion
 IsTextOfKind k (parsed.Usage text) = (k ≢ kind.DisplayHelp) × (k ≢ kind.DisplayVersion)
 IsTextOfKind k parsed.NoMemory = ⊥
 
--- the words ask for the command
+-- the arguments ask for the command
 abbrev pub IsAsked : List Text → Invocation → Type 0
 IsAsked words c = (fault_of ultra_app words ≡ []) × (asked words ≡ Some (asked_of c))
 
--- the words ask for the command, or memory was refused, or the error says what is wrong with them
+-- the arguments ask for the command, or memory was refused, or the error says what is wrong
 abbrev pub IsAnswer : List Text → Result Invocation Error → Type 0
 IsAnswer words r = MatchResult r (IsAsked words)
     (λ e. (kind_of e ≡ kind.OutOfMemory) ⊎ IsFault words (kind_of e))
 
--- the words ask for what was parsed
+-- the arguments ask for what was parsed
 abbrev pub IsAskedBy : List Text → Parsed → Type 0
 IsAskedBy words (parsed.Invocation c) = IsAsked words c
 IsAskedBy words (parsed.Help text) = IsFault words kind.DisplayHelp
@@ -273,7 +275,7 @@ IsAskedBy words parsed.NoMemory = ⊤
 abbrev pub IsPath : Text → Type 0
 IsPath t = slice_index t 0 ≢ 45
 
--- the words are `run` and two paths, after the program's name
+-- the arguments are `run` and two paths, after the program's name
 abbrev pub AreRunOf : List Text → Text → Text → Type 0
 AreRunOf words conf prog =
     (name : Text) × (words ≡ name ∷ codes "run" ∷ conf ∷ prog ∷ []) × IsPath conf × IsPath prog
@@ -288,7 +290,7 @@ IsRunOf conf prog parsed.NoMemory = ⊤
 
 -- ---- help and the version
 
--- the words are this one, after the program's name
+-- the only argument is this one, after the program's name
 abbrev pub AreOnly : List Text → Text → Type 0
 AreOnly words word = (name : Text) × (words ≡ name ∷ word ∷ [])
 

@@ -71,6 +71,6 @@ ultra_app = program_in (λ t. t.now) (λ r. r.now) COMMANDS
 abbrev pub IsRead : Rule → Arg → Type 0
 IsRead rule a = (rule_of a ≡ rule) × (a.global ≡ false)
 
--- the command is this one to a reader of words
+-- the command is this one to a reader of arguments
 abbrev pub IsApp : App → Command → Type 0
 IsApp app c = (app_of c ≡ app) × ((out-Command c).has_globals ≡ false)

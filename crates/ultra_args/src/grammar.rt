@@ -69,7 +69,7 @@ fn of_kind<'c>(alloc: Global, argument: &TableArgument) -> Arg<'c>
     ensures { IsRead (kind_rule (λ t. t.now) argument.now.name.now argument.now.kind) result }
 {
     let name = argument.name;
-    let named = helped(alloc, name, argument.help);
+    let named = argument_with_help(alloc, name, argument.help);
     match argument.kind {
         ArgumentKind::Text => named,
         ArgumentKind::Numbers => named
@@ -85,7 +85,7 @@ fn of_kind<'c>(alloc: Global, argument: &TableArgument) -> Arg<'c>
 }
 
 /// An argument of this name, and its help.
-fn helped<'c>(alloc: Global, name: &'c str, help: &'c str) -> Arg<'c>
+fn argument_with_help<'c>(alloc: Global, name: &'c str, help: &'c str) -> Arg<'c>
     ensures { IsRead (new_rule name.entry.now) result }
 {
     let argument = Arg::new(alloc, name);

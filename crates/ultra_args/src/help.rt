@@ -41,7 +41,7 @@ The trace is the same for every H. One worker is the fastest, and
 starts no thread: in each half of a cycle each worker is handed its
 part of the machine and gives it back, which costs more than it gains
 on machines of up to six stages. Measured at six stages, 2 workers
-took some 7 times as long as 1, and 8 workers more than 100 times
+took some 11 times as long as 1, and 8 workers more than 100 times
 (bench/README.md).";
 
 /// The help of the lines that are shown.
@@ -64,9 +64,9 @@ pub const JOB_WORKERS: &str = "\
 How many threads do the jobs, 1 to 64
 
 Each job is run by one thread, so a sweep gains by threads. Measured
-on four processors, jobs of a tenth of a second were done 1.6 to 1.8
-times as fast by 2 threads as by 1, and 2.2 to 2.7 times by 4; jobs of
-some milliseconds gained little (bench/README.md).";
+on four processors, jobs of some hundredths of a second were done 1.8
+times as fast by 2 threads as by 1, and 2.6 times by 4; jobs of one or
+two milliseconds gained little (bench/README.md).";
 
 /// The help of the heap of the trees: what has to fit.
 pub const HEAP: &str = "\
@@ -79,7 +79,8 @@ longer run needs no larger heap.";
 pub const SEED: &str = "\
 Chooses each PE at random, S 0 to 18446744073709551615
 
-The same seed gives the same run. It ends once all PEs have stopped.";
+The same seed gives the same run. It ends once all PEs have stopped,
+or after the steps of --steps.";
 
 /// The help of the most steps.
 pub const STEPS: &str = "\
@@ -114,19 +115,19 @@ A barrier and tickets have no size. T is 1 to 1000. Each number is in
 decimal digits.";
 
 /// What is said where the arguments ask for nothing, though each is right by itself.
-pub const WANTS_COMMAND: &str = "invalid arguments";
+pub const INVALID_ARGUMENTS: &str = "invalid arguments";
 
-/// What `run` wants.
+/// The text of a usage fault of `run`.
 pub const RUN_WANTS: &str = "--only is all, events or end";
 
-/// What `para` wants.
+/// The text of a usage fault of `para`.
 pub const PARA_WANTS: &str = "the steps come from SCHEDULE or from --seed S, and not from both; \
                               --steps T belongs to --seed; --only is all or end";
 
-/// What `sweep` wants.
+/// The text of a usage fault of `sweep`.
 pub const SWEEP_WANTS: &str = "--every E belongs to --measure";
 
-/// What `lib` wants.
+/// The text of a usage fault of `lib`.
 pub const LIB_WANTS: &str = "the coordination programs are gate B T, queue Z T, rw G T, barrier T \
                              and tickets T, with each number in decimal digits";
 

@@ -110,7 +110,7 @@ pub enum Invocation<'w> {
         /// The path of the program's text.
         program: &'w str,
         /// Where the steps come from.
-        schedule: ScheduleOf<'w>,
+        schedule: ScheduleSource<'w>,
         /// Whether only the end is shown.
         only_end: bool,
     },
@@ -152,7 +152,7 @@ pub enum LineFilter {
 
 /// Where the steps of a paracomputer come from.
 #[derive(Clone, Copy, Drop)]
-pub enum ScheduleOf<'w> {
+pub enum ScheduleSource<'w> {
     /// A file of PE numbers.
     File(&'w str),
     /// A generator of random numbers.
@@ -164,8 +164,8 @@ pub enum ScheduleOf<'w> {
     },
 }
 
-/// A coordination program with its parameters as the words give them: they may be out of range. The
-/// rounds are to be 1 to 1000.
+/// A coordination program with its parameters as the arguments give them: they may be out of range.
+/// The rounds are to be 1 to 1000.
 #[derive(Clone, Copy)]
 pub enum Coordination {
     /// A gate: `ultra lib gate B T`. The bound is to be 1 to 64.
@@ -195,7 +195,7 @@ pub enum Parsed<'w> {
     NoMemory,
 }
 
-/// What the words ask for. The first word is the program's name.
+/// What the arguments ask for. The first one is the program's name.
 ///
 /// The contract says which words are which command, which ask for help or the version, and which
 /// are wrong. So `run CONF PROG`, where neither path begins with a hyphen, is the run of these
@@ -210,14 +210,14 @@ pub fn parse<'w>(alloc: Global, words: &'w [&'w str]) -> Parsed<'w>
 {
     match command_in(alloc, words) {
         Ok(command) => Parsed::Invocation(command),
-        Err(error) => match shown(alloc, &error) {
+        Err(error) => match error_text(alloc, &error) {
             Ok(text) => text_of_kind(error.kind(), text),
             Err(_) => Parsed::NoMemory,
         },
     }
 }
 
-/// What words ask for that give no command but a text of this kind.
+/// What arguments ask for that give no command but a text of this kind.
 fn text_of_kind<'w>(kind: ErrorKind, text: String) -> Parsed<'w>
     ensures { IsTextOfKind kind result }
 {
@@ -229,7 +229,7 @@ fn text_of_kind<'w>(kind: ErrorKind, text: String) -> Parsed<'w>
 }
 
 /// The error's text for the user, unless memory was refused.
-fn shown(alloc: Global, error: &clap::Error) -> Result<String, AllocError>
+fn error_text(alloc: Global, error: &clap::Error) -> Result<String, AllocError>
     ensures { IfOk result (λ t. kind_of error.now ≢ OutOfMemory) }
 {
     if error.kind() == ErrorKind::OutOfMemory {
@@ -238,7 +238,7 @@ fn shown(alloc: Global, error: &clap::Error) -> Result<String, AllocError>
     format!(in alloc; "{error}")
 }
 
-/// The command of the words.
+/// The command of the arguments.
 fn command_in<'w>(alloc: Global, words: &'w [&'w str]) -> Result<Invocation<'w>, clap::Error>
     ensures { IsAnswer (map (λ w. w.now) words.entry.now) result }
 {
@@ -246,7 +246,7 @@ fn command_in<'w>(alloc: Global, words: &'w [&'w str]) -> Result<Invocation<'w>,
     read_words(&mut ultra, words)
 }
 
-/// The command that the words name, as `clap` reads them by `ultra`.
+/// The command that the arguments name, as `clap` reads them by `ultra`.
 fn read_words<'w>(
     ultra: &mut clap::Command<'w>,
     words: &'w [&'w str],
@@ -260,7 +260,7 @@ fn read_words<'w>(
     }
 }
 
-/// The command that the words name, if `clap` accepts them, and what the command wants.
+/// The command that the arguments name, if `clap` accepts them, and what the command wants.
 fn matched_command<'w>(
     ultra: &mut clap::Command<'w>,
     words: &'w [&'w str],

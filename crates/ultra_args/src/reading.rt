@@ -4,7 +4,7 @@ ghost use Rattle.std.specs.Prelude.{◌≡◌, map, option_map, IfSome};
 ghost use Rattle.clap.specs.Words.{all_of, first_of, found_of, rows_of, subcommand_rows_of};
 ghost use Rattle.ultra_args.specs.Asked as spec;
 ghost use Rattle.ultra_args.specs.Asked.{asked_of, decimal, given_number, is_set, named, named_in};
-ghost use Rattle.ultra_args.specs.Asked.{number_of, schedule_of, sized, sizeless, IsInRange};
+ghost use Rattle.ultra_args.specs.Asked.{number_of, schedule_of, program_with_size, program_without_size, IsInRange};
 
 use crate::table::{
     ALL_OR_END, AT_ONCE, ArgumentKind, CAREFUL, COMMANDS, CONF, CSV, CommandName, EVERY, FROM,
@@ -12,7 +12,7 @@ use crate::table::{
     STEPS, TO, TableArgument, TableRow, WORKERS,
 };
 use crate::{
-    Coordination, HeapBytes, Invocation, JobsAtOnce, LineFilter, ScheduleOf, SweepOutput,
+    Coordination, HeapBytes, Invocation, JobsAtOnce, LineFilter, ScheduleSource, SweepOutput,
     WindowCycles, Workers, help,
 };
 use clap::ArgMatches;
@@ -35,14 +35,14 @@ fn invocation_named<'w>(name: &str, words: &ArgMatches<'w>) -> Option<Invocation
 /// What the command wants of its arguments besides the table.
 pub fn wanted_by(matches: &ArgMatches<'_>) -> &'static str {
     let Some((name, _)) = matches.subcommand() else {
-        return help::WANTS_COMMAND;
+        return help::INVALID_ARGUMENTS;
     };
     match command_named(name) {
         Some(CommandName::Run) => help::RUN_WANTS,
         Some(CommandName::Para) => help::PARA_WANTS,
         Some(CommandName::Sweep) => help::SWEEP_WANTS,
         Some(CommandName::Lib) => help::LIB_WANTS,
-        _ => help::WANTS_COMMAND,
+        _ => help::INVALID_ARGUMENTS,
     }
 }
 
@@ -81,7 +81,7 @@ fn asked_in<'w>(command: CommandName, words: &ArgMatches<'w>) -> Option<Invocati
     }
 }
 
-/// What `run` is asked for.
+/// The `run` command that these arguments ask for.
 fn run<'w>(words: &ArgMatches<'w>) -> Option<Invocation<'w>>
     ensures { option_map asked_of result
         ≡ spec.asked_in CommandName.Run (rows_of (found_of words.now)) }
@@ -97,7 +97,7 @@ fn run<'w>(words: &ArgMatches<'w>) -> Option<Invocation<'w>>
     })
 }
 
-/// What `events` is asked for.
+/// The `events` command that these arguments ask for.
 fn events<'w>(words: &ArgMatches<'w>) -> Option<Invocation<'w>>
     ensures { option_map asked_of result
         ≡ spec.asked_in CommandName.Events (rows_of (found_of words.now)) }
@@ -111,7 +111,7 @@ fn events<'w>(words: &ArgMatches<'w>) -> Option<Invocation<'w>>
     })
 }
 
-/// What `requests` is asked for.
+/// The `requests` command that these arguments ask for.
 fn requests<'w>(words: &ArgMatches<'w>) -> Option<Invocation<'w>>
     ensures { option_map asked_of result
         ≡ spec.asked_in CommandName.Requests (rows_of (found_of words.now)) }
@@ -122,7 +122,7 @@ fn requests<'w>(words: &ArgMatches<'w>) -> Option<Invocation<'w>>
     })
 }
 
-/// What `measure` is asked for.
+/// The `measure` command that these arguments ask for.
 fn measure<'w>(words: &ArgMatches<'w>) -> Option<Invocation<'w>>
     ensures { option_map asked_of result
         ≡ spec.asked_in CommandName.Measure (rows_of (found_of words.now)) }
@@ -135,7 +135,7 @@ fn measure<'w>(words: &ArgMatches<'w>) -> Option<Invocation<'w>>
     })
 }
 
-/// What `order` is asked for.
+/// The `order` command that these arguments ask for.
 fn order<'w>(words: &ArgMatches<'w>) -> Option<Invocation<'w>>
     ensures { option_map asked_of result
         ≡ spec.asked_in CommandName.Order (rows_of (found_of words.now)) }
@@ -146,7 +146,7 @@ fn order<'w>(words: &ArgMatches<'w>) -> Option<Invocation<'w>>
     })
 }
 
-/// What `explain` is asked for.
+/// The `explain` command that these arguments ask for.
 fn explain<'w>(words: &ArgMatches<'w>) -> Option<Invocation<'w>>
     ensures { option_map asked_of result
         ≡ spec.asked_in CommandName.Explain (rows_of (found_of words.now)) }
@@ -158,7 +158,7 @@ fn explain<'w>(words: &ArgMatches<'w>) -> Option<Invocation<'w>>
     })
 }
 
-/// What `check` is asked for.
+/// The `check` command that these arguments ask for.
 fn check<'w>(words: &ArgMatches<'w>) -> Option<Invocation<'w>>
     ensures { option_map asked_of result
         ≡ spec.asked_in CommandName.Check (rows_of (found_of words.now)) }
@@ -170,7 +170,7 @@ fn check<'w>(words: &ArgMatches<'w>) -> Option<Invocation<'w>>
     })
 }
 
-/// What `para` is asked for.
+/// The `para` command that these arguments ask for.
 fn para<'w>(words: &ArgMatches<'w>) -> Option<Invocation<'w>>
     ensures { option_map asked_of result
         ≡ spec.asked_in CommandName.Para (rows_of (found_of words.now)) }
@@ -183,7 +183,7 @@ fn para<'w>(words: &ArgMatches<'w>) -> Option<Invocation<'w>>
     })
 }
 
-/// What `list` is asked for.
+/// The `list` command that these arguments ask for.
 fn list<'w>(words: &ArgMatches<'w>) -> Option<Invocation<'w>>
     ensures { option_map asked_of result
         ≡ spec.asked_in CommandName.List (rows_of (found_of words.now)) }
@@ -194,7 +194,7 @@ fn list<'w>(words: &ArgMatches<'w>) -> Option<Invocation<'w>>
     })
 }
 
-/// What `sweep` is asked for.
+/// The `sweep` command that these arguments ask for.
 fn sweep<'w>(words: &ArgMatches<'w>) -> Option<Invocation<'w>>
     ensures { option_map asked_of result
         ≡ spec.asked_in CommandName.Sweep (rows_of (found_of words.now)) }
@@ -208,7 +208,7 @@ fn sweep<'w>(words: &ArgMatches<'w>) -> Option<Invocation<'w>>
     })
 }
 
-/// What `lib` is asked for.
+/// The `lib` command that these arguments ask for.
 fn lib<'w>(words: &ArgMatches<'w>) -> Option<Invocation<'w>>
     ensures { option_map asked_of result
         ≡ spec.asked_in CommandName.Lib (rows_of (found_of words.now)) }
@@ -256,12 +256,12 @@ fn only_end(words: &ArgMatches<'_>) -> Option<bool>
 }
 
 /// Where the steps come from: a file or a seed, and not both.
-fn schedule<'w>(words: &ArgMatches<'w>) -> Option<ScheduleOf<'w>>
+fn schedule<'w>(words: &ArgMatches<'w>) -> Option<ScheduleSource<'w>>
     ensures { option_map schedule_of result ≡ spec.schedule_in (rows_of (found_of words.now)) }
 {
     match (text(words, &SCHEDULE), number(words, &SEED), steps(words)) {
-        (Some(path), None, None) => Some(ScheduleOf::File(path)),
-        (None, Some(seed), steps) => Some(ScheduleOf::Seed { seed, steps }),
+        (Some(path), None, None) => Some(ScheduleSource::File(path)),
+        (None, Some(seed), steps) => Some(ScheduleSource::Seed { seed, steps }),
         _ => None,
     }
 }
@@ -296,15 +296,15 @@ fn coordination(name: &str, numbers: &[&str]) -> Option<Coordination>
     ensures { result ≡ spec.coordination name.now (map (λ s. s.now) numbers.now) }
 {
     match numbers {
-        [rounds] => sizeless(name, decimal(rounds)?),
-        [size, rounds] => sized(name, decimal(size)?, decimal(rounds)?),
+        [rounds] => program_without_size(name, decimal(rounds)?),
+        [size, rounds] => program_with_size(name, decimal(size)?, decimal(rounds)?),
         _ => None,
     }
 }
 
 /// The coordination program of this name that has a size besides its number of rounds.
-fn sized(name: &str, size: u32, rounds: u32) -> Option<Coordination>
-    ensures { result ≡ sized name.now size rounds }
+fn program_with_size(name: &str, size: u32, rounds: u32) -> Option<Coordination>
+    ensures { result ≡ program_with_size name.now size rounds }
 {
     if name == "gate" {
         let bound = size;
@@ -321,8 +321,8 @@ fn sized(name: &str, size: u32, rounds: u32) -> Option<Coordination>
 }
 
 /// The coordination program of this name that has a number of rounds alone.
-fn sizeless(name: &str, rounds: u32) -> Option<Coordination>
-    ensures { result ≡ sizeless name.now rounds }
+fn program_without_size(name: &str, rounds: u32) -> Option<Coordination>
+    ensures { result ≡ program_without_size name.now rounds }
 {
     if name == "barrier" {
         Some(Coordination::Barrier { rounds })

@@ -25,7 +25,8 @@ struct Targets {
 impl Targets {
     /// The targets of a program.
     fn of(program: &Program) -> Targets
-        ensures marked { (k : ℕ) → k ≤ MOST_INSTRUCTIONS → slice_index_or result.marked k false ≡ is_target program.now k }
+        ensures marked { (k : ℕ) → k ≤ MOST_INSTRUCTIONS →
+            slice_index_or result.marked k false ≡ is_target program.now k }
         ensures listable { IsListable program.now }
     {
         let mut marked = [false; TARGETS];
@@ -59,62 +60,61 @@ fn target(instruction: Instr) -> Option<u16>
 pub fn listing<S: Sink>(program: &Program, sink: &mut S) -> Result<(), SinkFault>
     ensures ok { OnOk result (S.taken sink.new ≡ S.taken sink.old ++ listing_text program.now) }
     ensures still { OnOk result (S.failures sink.new ≡ S.failures sink.old) }
-    ensures err { OnErr result (TakesPrefix (listing_text program.now) (S.taken sink.old) (S.taken sink.new)) }
+    ensures err { OnErr result
+        (TakesPrefix (listing_text program.now) (S.taken sink.old) (S.taken sink.new)) }
     ensures counted { OnErr result (S.failures sink.new ≡ S.failures sink.old + 1) }
     ensures reads_back { IsProgramText (listing_text program.now) program.now }
 {
     let mut buffer = TextBuffer::new(sink);
-    write_program(&mut buffer, program);
+    put_program(&mut buffer, program);
     buffer.finish()
 }
 
 /// Writes the canonical text of a program.
-fn write_program<S: Sink>(buffer: &mut TextBuffer<'_, S>, program: &Program)
+fn put_program<S: Sink>(buffer: &mut TextBuffer<'_, S>, program: &Program)
     ensures text { Writes S.taken S.failures (listing_text program.now) buffer.old buffer.new }
     ensures reads_back { IsProgramText (listing_text program.now) program.now }
 {
     let targets = Targets::of(program);
     for pc in 0..program.len() {
         if let Some(instruction) = program.instruction(pc) {
-            write_pc(buffer, &targets, pc, instruction);
+            put_pc(buffer, &targets, pc, instruction);
         }
     }
-    write_label_line(buffer, &targets, program.len());
+    put_label_line(buffer, &targets, program.len());
 }
 
 /// Writes the instruction at a program counter, behind the label of the program counter if some
 /// jump goes there.
-fn write_pc<S: Sink>(
-    buffer: &mut TextBuffer<'_, S>,
-    targets: &Targets,
-    pc: usize,
-    instruction: Instr,
-)
+fn put_pc<S: Sink>(buffer: &mut TextBuffer<'_, S>, targets: &Targets, pc: usize, instruction: Instr)
     requires { pc ≤ MOST_INSTRUCTIONS }
-    ensures { Writes S.taken S.failures (label_if (slice_index_or targets.now.marked pc false) pc ++ instruction_line instruction) buffer.old buffer.new }
+    ensures { Writes S.taken S.failures
+        (label_if (slice_index_or targets.now.marked pc false) pc ++ instruction_line instruction)
+        buffer.old buffer.new }
 {
-    write_label_line(buffer, targets, pc);
-    write_instruction(buffer, instruction);
+    put_label_line(buffer, targets, pc);
+    put_instruction(buffer, instruction);
 }
 
 /// Writes a line with the label of a program counter, if some jump goes there.
-fn write_label_line<S: Sink>(buffer: &mut TextBuffer<'_, S>, targets: &Targets, pc: usize)
+fn put_label_line<S: Sink>(buffer: &mut TextBuffer<'_, S>, targets: &Targets, pc: usize)
     requires { pc ≤ MOST_INSTRUCTIONS }
-    ensures { Writes S.taken S.failures (label_if (slice_index_or targets.now.marked pc false) pc) buffer.old buffer.new }
+    ensures { Writes S.taken S.failures
+        (label_if (slice_index_or targets.now.marked pc false) pc) buffer.old buffer.new }
 {
     if targets.marked[pc] {
-        write_label(buffer, pc);
+        put_label(buffer, pc);
         buffer.put(b":\n");
     }
 }
 
 /// Writes the line of an instruction.
-fn write_instruction<S: Sink>(buffer: &mut TextBuffer<'_, S>, instruction: Instr)
+fn put_instruction<S: Sink>(buffer: &mut TextBuffer<'_, S>, instruction: Instr)
     ensures { Writes S.taken S.failures (instruction_line instruction) buffer.old buffer.new }
 {
     let mnemonic = mnemonic_of(&instruction);
     let operands = operands_of(instruction);
-    write_line(buffer, mnemonic, operands.as_slice());
+    put_line(buffer, mnemonic, operands.as_slice());
 }
 
 /// The operands of an instruction, in the order in which they are written.
@@ -194,52 +194,52 @@ fn operands_of(instruction: Instr) -> Operands
 }
 
 /// Writes the line of an instruction with these operands.
-fn write_line<S: Sink>(buffer: &mut TextBuffer<'_, S>, mnemonic: Mnemonic, operands: &[Operand])
+fn put_line<S: Sink>(buffer: &mut TextBuffer<'_, S>, mnemonic: Mnemonic, operands: &[Operand])
     ensures { Writes S.taken S.failures (line_text mnemonic operands.now) buffer.old buffer.new }
 {
     buffer.put(mnemonic.word());
-    write_operands(buffer, operands);
+    put_operands(buffer, operands);
     buffer.put(b"\n");
 }
 
 /// Writes operands, each behind a blank.
-fn write_operands<S: Sink>(buffer: &mut TextBuffer<'_, S>, operands: &[Operand])
+fn put_operands<S: Sink>(buffer: &mut TextBuffer<'_, S>, operands: &[Operand])
     ensures { Writes S.taken S.failures (operands_text operands.now) buffer.old buffer.new }
 {
     for operand in operands {
-        write_next(buffer, *operand);
+        put_next(buffer, *operand);
     }
 }
 
 /// Writes an operand behind a blank.
-fn write_next<S: Sink>(buffer: &mut TextBuffer<'_, S>, operand: Operand)
+fn put_next<S: Sink>(buffer: &mut TextBuffer<'_, S>, operand: Operand)
     ensures { Writes S.taken S.failures (codes " " ++ operand_text operand) buffer.old buffer.new }
 {
     buffer.put(b" ");
-    write_operand(buffer, operand);
+    put_operand(buffer, operand);
 }
 
 /// Writes an operand.
-fn write_operand<S: Sink>(buffer: &mut TextBuffer<'_, S>, operand: Operand)
+fn put_operand<S: Sink>(buffer: &mut TextBuffer<'_, S>, operand: Operand)
     ensures { Writes S.taken S.failures (operand_text operand) buffer.old buffer.new }
 {
     match operand {
-        Operand::Register(register) => write_numbered(buffer, b"r", register.index()),
+        Operand::Register(register) => put_numbered(buffer, b"r", register.index()),
         Operand::Number(number) => buffer.put_number(number),
         Operand::Bits(shift) => buffer.put_number(shift.bits()),
-        Operand::Label(pc) => write_label(buffer, usize::from(pc)),
+        Operand::Label(pc) => put_label(buffer, usize::from(pc)),
     }
 }
 
 /// Writes the label of a program counter, as `L7`.
-fn write_label<S: Sink>(buffer: &mut TextBuffer<'_, S>, pc: usize)
+fn put_label<S: Sink>(buffer: &mut TextBuffer<'_, S>, pc: usize)
     ensures { Writes S.taken S.failures (label_text pc) buffer.old buffer.new }
 {
-    write_numbered(buffer, b"L", pc);
+    put_numbered(buffer, b"L", pc);
 }
 
 /// Writes a letter, and a number behind it in decimal digits.
-fn write_numbered<S: Sink>(buffer: &mut TextBuffer<'_, S>, letter: &[u8], number: usize)
+fn put_numbered<S: Sink>(buffer: &mut TextBuffer<'_, S>, letter: &[u8], number: usize)
     ensures { Writes S.taken S.failures (letter.now ++ decimal number) buffer.old buffer.new }
 {
     buffer.put(letter);

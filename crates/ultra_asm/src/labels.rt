@@ -46,7 +46,8 @@ impl<'t> Labels<'t> {
 
     /// The labels of a text.
     pub fn of(alloc: Global, text: &'t [u8]) -> Result<Labels<'t>, AllocError>
-        ensures { IfOk result (λ l. (q : List ℕ) → definition_in l q ≡ near_definition_of (text_words text.now) q) }
+        ensures { IfOk result (λ l. (q : List ℕ) →
+            definition_in l q ≡ near_definition_of (text_words text.now) q) }
     {
         let mut list = Vec::new(alloc);
         let mut instructions = Vec::new(alloc);

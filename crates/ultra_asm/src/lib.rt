@@ -33,7 +33,7 @@ pub enum AsmFaultKind {
     /// An operand should be a register, and isn't.
     #[error("bad register")]
     BadRegister,
-    /// An operand should be a number, and isn't, or is too large.
+    /// An operand should be a number below `2^32`, or below 32 as a shift, and isn't.
     #[error("bad number")]
     BadNumber,
     /// The target of a jump isn't a name, or is one that no line defines.

@@ -68,7 +68,7 @@ impl Readable for u16 {
 }
 
 /// No operand.
-fn none(operands: &[&[u8]]) -> Result<(), AsmFaultKind>
+fn read_none(operands: &[&[u8]]) -> Result<(), AsmFaultKind>
     ensures { result ≡ none_in (map (λ w. w.now) operands.now) }
 {
     match operands {
@@ -78,7 +78,7 @@ fn none(operands: &[&[u8]]) -> Result<(), AsmFaultKind>
 }
 
 /// One operand.
-fn one<A: Readable + Drop>(operands: &[&[u8]], labels: &Labels) -> Result<A, AsmFaultKind>
+fn read_one<A: Readable + Drop>(operands: &[&[u8]], labels: &Labels) -> Result<A, AsmFaultKind>
     ensures { result ≡ one_in (A.reading (pcs_in labels.now)) (map (λ w. w.now) operands.now) }
 {
     match operands {
@@ -88,11 +88,12 @@ fn one<A: Readable + Drop>(operands: &[&[u8]], labels: &Labels) -> Result<A, Asm
 }
 
 /// Two operands.
-fn two<A: Readable + Drop, B: Readable + Drop>(
+fn read_two<A: Readable + Drop, B: Readable + Drop>(
     operands: &[&[u8]],
     labels: &Labels,
 ) -> Result<(A, B), AsmFaultKind>
-    ensures { result ≡ two_in (A.reading (pcs_in labels.now)) (B.reading (pcs_in labels.now)) (map (λ w. w.now) operands.now) }
+    ensures { result ≡ two_in (A.reading (pcs_in labels.now)) (B.reading (pcs_in labels.now))
+        (map (λ w. w.now) operands.now) }
 {
     match operands {
         [first, second] => Ok((A::read(first, labels)?, B::read(second, labels)?)),
@@ -101,11 +102,12 @@ fn two<A: Readable + Drop, B: Readable + Drop>(
 }
 
 /// Three operands.
-fn three<A: Readable + Drop, B: Readable + Drop, C: Readable + Drop>(
+fn read_three<A: Readable + Drop, B: Readable + Drop, C: Readable + Drop>(
     operands: &[&[u8]],
     labels: &Labels,
 ) -> Result<(A, B, C), AsmFaultKind>
-    ensures { result ≡ three_in (A.reading (pcs_in labels.now)) (B.reading (pcs_in labels.now)) (C.reading (pcs_in labels.now)) (map (λ w. w.now) operands.now) }
+    ensures { result ≡ three_in (A.reading (pcs_in labels.now)) (B.reading (pcs_in labels.now))
+        (C.reading (pcs_in labels.now)) (map (λ w. w.now) operands.now) }
 {
     match operands {
         [first, second, third] => Ok((
@@ -123,28 +125,35 @@ fn instruction(
     operands: &[&[u8]],
     labels: &Labels,
 ) -> Result<Instr, AsmFaultKind>
-    ensures { result ≡ read_instruction (pcs_in labels.now) mnemonic (map (λ w. w.now) operands.now) }
+    ensures { result ≡
+        read_instruction (pcs_in labels.now) mnemonic (map (λ w. w.now) operands.now) }
 {
     match mnemonic {
-        Mnemonic::Set => two(operands, labels).map(|(d, n)| Instr::Set(d, n)),
-        Mnemonic::Add => three(operands, labels).map(|(d, a, b)| Instr::Add(d, a, b)),
-        Mnemonic::AddWord => three(operands, labels).map(|(d, a, n)| Instr::AddWord(d, a, n)),
-        Mnemonic::Subtract => three(operands, labels).map(|(d, a, b)| Instr::Subtract(d, a, b)),
-        Mnemonic::And => three(operands, labels).map(|(d, a, b)| Instr::And(d, a, b)),
-        Mnemonic::ShiftRight => three(operands, labels).map(|(d, a, n)| Instr::ShiftRight(d, a, n)),
-        Mnemonic::IsBelow => three(operands, labels).map(|(d, a, b)| Instr::IsBelow(d, a, b)),
-        Mnemonic::IsEqual => three(operands, labels).map(|(d, a, b)| Instr::IsEqual(d, a, b)),
-        Mnemonic::JumpIfZero => two(operands, labels).map(|(a, to)| Instr::JumpIfZero(a, to)),
-        Mnemonic::JumpIfNotZero => two(operands, labels).map(|(a, to)| Instr::JumpIfNotZero(a, to)),
-        Mnemonic::Jump => one(operands, labels).map(Instr::Jump),
-        Mnemonic::Number => one(operands, labels).map(Instr::Number),
-        Mnemonic::Size => one(operands, labels).map(Instr::Size),
-        Mnemonic::Load => two(operands, labels).map(|(d, a)| Instr::Load(d, a)),
-        Mnemonic::Store => two(operands, labels).map(|(a, b)| Instr::Store(a, b)),
-        Mnemonic::Faa => three(operands, labels).map(|(d, a, b)| Instr::Faa(d, a, b)),
-        Mnemonic::Swap => three(operands, labels).map(|(d, a, b)| Instr::Swap(d, a, b)),
-        Mnemonic::Fence => none(operands).map(|()| Instr::Fence),
-        Mnemonic::Halt => none(operands).map(|()| Instr::Halt),
+        Mnemonic::Set => read_two(operands, labels).map(|(d, n)| Instr::Set(d, n)),
+        Mnemonic::Add => read_three(operands, labels).map(|(d, a, b)| Instr::Add(d, a, b)),
+        Mnemonic::AddWord => read_three(operands, labels).map(|(d, a, n)| Instr::AddWord(d, a, n)),
+        Mnemonic::Subtract => read_three(operands, labels).map(|(d, a, b)| Instr::Subtract(
+            d, a, b,
+        )),
+        Mnemonic::And => read_three(operands, labels).map(|(d, a, b)| Instr::And(d, a, b)),
+        Mnemonic::ShiftRight => read_three(operands, labels).map(|(d, a, n)| Instr::ShiftRight(
+            d, a, n,
+        )),
+        Mnemonic::IsBelow => read_three(operands, labels).map(|(d, a, b)| Instr::IsBelow(d, a, b)),
+        Mnemonic::IsEqual => read_three(operands, labels).map(|(d, a, b)| Instr::IsEqual(d, a, b)),
+        Mnemonic::JumpIfZero => read_two(operands, labels).map(|(a, to)| Instr::JumpIfZero(a, to)),
+        Mnemonic::JumpIfNotZero => read_two(operands, labels).map(|(a, to)| Instr::JumpIfNotZero(
+            a, to,
+        )),
+        Mnemonic::Jump => read_one(operands, labels).map(Instr::Jump),
+        Mnemonic::Number => read_one(operands, labels).map(Instr::Number),
+        Mnemonic::Size => read_one(operands, labels).map(Instr::Size),
+        Mnemonic::Load => read_two(operands, labels).map(|(d, a)| Instr::Load(d, a)),
+        Mnemonic::Store => read_two(operands, labels).map(|(a, b)| Instr::Store(a, b)),
+        Mnemonic::Faa => read_three(operands, labels).map(|(d, a, b)| Instr::Faa(d, a, b)),
+        Mnemonic::Swap => read_three(operands, labels).map(|(d, a, b)| Instr::Swap(d, a, b)),
+        Mnemonic::Fence => read_none(operands).map(|()| Instr::Fence),
+        Mnemonic::Halt => read_none(operands).map(|()| Instr::Halt),
     }
 }
 
@@ -203,7 +212,8 @@ pub fn line_instruction(
     has_room: bool,
     labels: &Labels,
 ) -> Result<Option<Instr>, AsmFaultKind>
-    ensures { result ≡ read_line (definition_in labels.now) index has_room (map (λ w. w.now) words.now) }
+    ensures { result ≡
+        read_line (definition_in labels.now) index has_room (map (λ w. w.now) words.now) }
 {
     check_label(words, index, labels)?;
     statement_instruction(statement(words), has_room, labels)

@@ -5,7 +5,7 @@ use Rattle.ultra_partition.specs.Merging.{merged}
 use Rattle.ultra_topology.proofs.Marks.{length-put_on}
 use Rattle.ultra_block_core.specs.Building.{empty_block, with_unit, without_unit}
 use Rattle.ultra_cycle_law.proofs.AtFrame.{whole_alike}
-use Rattle.ultra_partition.{proofs.Columns.column_empty, proofs.Common.AreAlike, proofs.Common.AreWhole, proofs.Common.BlockState, proofs.Common.Instr, proofs.Common.IsShaped, proofs.Common.OfEach, proofs.Common.Settings, proofs.Common.block_at, proofs.Common.by_kind, proofs.Common.event_rank, proofs.Common.frame_of, proofs.Common.value_or, proofs.Common.home, proofs.Common.machine_in, proofs.Common.no_block, proofs.Common.put_apart, proofs.Common.put_there, proofs.Common.is_in_block, proofs.Common.stop_rank, proofs.Common.unit_count, proofs.Happenings.joined_home, proofs.Units.Sort, proofs.Units.elements, proofs.Units.modules, proofs.Units.switches, specs.Cut.is_partition, specs.Events.events_of, specs.Events.stops_of}
+use Rattle.ultra_partition.{proofs.Columns.column_empty, proofs.Common.AreAlike, proofs.Common.AreWhole, proofs.Common.BlockState, proofs.Common.Instr, proofs.Common.IsShaped, proofs.Common.OfEach, proofs.Common.Settings, proofs.Common.block_at, proofs.Common.by_kind, proofs.Common.event_rank, proofs.Common.frame_of, proofs.Common.value_or, proofs.Common.home, proofs.Common.machine_in, proofs.Common.no_block, proofs.Common.put_apart, proofs.Common.put_there, proofs.Common.is_in_block, proofs.Common.stop_rank, proofs.Common.unit_count, proofs.Happenings.joined_home, proofs.Units.Sort, proofs.Units.elements, proofs.Units.modules, proofs.Units.switches, specs.Cut.is_partition, specs.Events.merged_events, specs.Events.merged_stops}
 use Rattle.ultra_block.specs.{Dealt.IsLastNamed, State.MakeUp}
 
 ruleset moving = (nat_tests, put_there, put_apart, length-set, get_or-set_same, get_or-set_other)
@@ -74,7 +74,7 @@ module _ (c : Settings) (program : List Instr) (was : List ℕ) (n : ℕ) (b : B
   same_merged list rank count nothing same = grind (arith, append-nil, get_or_past, joined_home list now 0)
 
   same_machine : machine_in c partition n now ≡ machine_in c was n (b ∷ [])
-  unfolding events_of stops_of
+  unfolding merged_events merged_stops
   same_machine =
       grind (arith, same_merged (λ x. x.events) (event_rank c.stages) 1280 refl, same_merged (λ x. x.stops) stop_rank 64 refl, whole_alike c whole.machine.machine.range (frame_of c.stages partition now) (frame_of c.stages was (b ∷ [])) alike)
 

@@ -11,7 +11,7 @@ ghost use Rattle.ultra_unit_steps.specs.Elements.{element_of};
 
 use crate::building::{empty_blocks, fresh_block};
 use crate::cycle::make_cycle;
-use crate::partition::{PartitionFault, count_blocks, count_units, names_all_units};
+use crate::partition::{PartitionFault, count_blocks, names_all_units, unit_count};
 use crate::ranks::{ByElement, ByRules};
 use std::alloc::{AllocError, Global};
 use std::marker::Model;
@@ -43,7 +43,7 @@ pub struct Parts {
 
 impl Parts {
     /// The block of the unit with this number.
-    fn home_of(&self, unit: usize) -> &Block
+    fn block_of(&self, unit: usize) -> &Block
         requires whole { AreParts self.now }
         requires unit { unit < unit_count self.now.config.stages }
         ensures { result.now ≡ block_at self.now.blocks.items (home self.now.partition.items unit) }
@@ -54,7 +54,7 @@ impl Parts {
     /// The same where there is only one block: it needs no look at the partition. Only the contract
     /// uses `_unit`.
     #[inline(always)]
-    fn home_in_one(&self, _unit: usize) -> &Block
+    fn block_in_one(&self, _unit: usize) -> &Block
         requires whole { AreParts self.now }
         requires one { length self.now.blocks.items ≡ 1 }
         requires unit { _unit < unit_count self.now.config.stages }
@@ -94,13 +94,19 @@ impl Blocks {
         config: &Config,
         program: &Program,
     ) -> Result<Blocks, AllocError>
-        ensures { IfOk result (λ b. b ≡ record { config = config.now; program = program.now; partition = replicate (unit_count config.now.stages) 0; count = 1; machine = start config.now }) }
+        ensures { IfOk result (λ b. b ≡ record {
+          config = config.now;
+          program = program.now;
+          partition = replicate (unit_count config.now.stages) 0;
+          count = 1;
+          machine = start config.now;
+        }) }
     {
         Ok(Blocks {
             parts: Parts {
                 config: config.try_clone()?,
                 program: program.try_clone(alloc)?,
-                partition: vec![in alloc; 0; count_units(config)]?,
+                partition: vec![in alloc; 0; unit_count(config)]?,
                 done: 0,
                 blocks: vec![in alloc; fresh_block(alloc, config, program)?]?,
             },
@@ -120,10 +126,17 @@ impl Blocks {
         program: &Program,
         partition: &[u8],
     ) -> Result<Blocks, PartitionFault>
-        ensures state { IfOk result (λ b. b ≡ record { config = config.now; program = program.now; partition = partition.now; count = b.count; machine = start config.now }) }
+        ensures state { IfOk result (λ b. b ≡ record {
+          config = config.now;
+          program = program.now;
+          partition = partition.now;
+          count = b.count;
+          machine = start config.now;
+        }) }
         ensures count { IfOk result (λ b. IsLastNamed partition.now b.count) }
         ensures accepted { OnOk result (is_partition config.now partition.now ≡ true) }
-        ensures refused { IsErrOf result PartitionFault.BadPartition ↔ (is_partition config.now partition.now ≡ false) }
+        ensures refused { IsErrOf result PartitionFault.BadPartition ↔
+            (is_partition config.now partition.now ≡ false) }
     {
         if !names_all_units(config, partition) {
             return Err(PartitionFault::BadPartition);
@@ -141,10 +154,12 @@ impl Blocks {
     /// says that memory was refused. With either the same machine is given back.
     pub fn recut(self, alloc: Global, partition: &[u8]) -> Result<Blocks, (Blocks, PartitionFault)>
         requires { self.count ≡ 1 }
-        ensures state { IfOk result (λ b. b ≡ record self { partition = partition.now; count = b.count }) }
+        ensures state { IfOk result (λ b.
+            b ≡ record self { partition = partition.now; count = b.count }) }
         ensures count { IfOk result (λ b. IsLastNamed partition.now b.count) }
         ensures accepted { OnOk result (is_partition self.config partition.now ≡ true) }
-        ensures refused { IfErr result (λ e. (e.1 ≡ PartitionFault.BadPartition) ↔ (is_partition self.config partition.now ≡ false)) }
+        ensures refused { IfErr result (λ e. (e.1 ≡ PartitionFault.BadPartition) ↔
+            (is_partition self.config partition.now ≡ false)) }
         ensures given_back { IfErr result (λ e. e.0 ≡ self) }
     {
         if !names_all_units(&self.parts.config, partition) {
@@ -179,7 +194,7 @@ impl Blocks {
     }
 
     /// Puts the parts of a machine together, which has to be between two cycles.
-    pub fn of_parts(parts: Parts) -> Blocks
+    pub fn from_parts(parts: Parts) -> Blocks
         requires { AreParts parts }
         ensures { result ≡ put_together parts }
     {
@@ -193,7 +208,9 @@ impl Blocks {
     #[inline(always)]
     pub fn cycle(&mut self)
         requires { self.old.machine.cycles < 2 ^ 32 - 1 }
-        ensures { self.new ≡ record self.old { machine = next_cycle self.old.config self.old.program self.old.machine } }
+        ensures { self.new ≡ record self.old {
+          machine = next_cycle self.old.config self.old.program self.old.machine;
+        } }
     {
         make_cycle(
             self.parts.blocks.as_mut_slice(),
@@ -262,7 +279,7 @@ impl Blocks {
     /// What happened in the last cycle, in the order of the rules: deliveries by processing
     /// element, servings by module, combinations by stage, position and arrival, issues by
     /// processing element.
-    #[tactic(auto, using(std::proofs::lemmas::Grind::common_steps), unfolding(ultra_cycle_law::specs::Whole::whole, ultra_partition::specs::Events::events_of))]
+    #[tactic(auto, using(std::proofs::lemmas::Grind::common_steps), unfolding(ultra_cycle_law::specs::Whole::whole, ultra_partition::specs::Events::merged_events))]
     pub fn events(&self) -> Merge<'_, Event, ByRules>
         ensures { events_left result ≡ self.now.machine.events }
     {
@@ -276,7 +293,7 @@ impl Blocks {
     }
 
     /// The faults of the last cycle, by processing element.
-    #[tactic(auto, using(std::proofs::lemmas::Grind::common_steps), unfolding(ultra_cycle_law::specs::Whole::whole, ultra_partition::specs::Events::stops_of))]
+    #[tactic(auto, using(std::proofs::lemmas::Grind::common_steps), unfolding(ultra_cycle_law::specs::Whole::whole, ultra_partition::specs::Events::merged_stops))]
     pub fn stops(&self) -> Merge<'_, Stop, ByElement>
         ensures { stops_left result ≡ self.now.machine.stops }
     {
@@ -312,8 +329,9 @@ impl Blocks {
         self.parts.blocks[0].stops()
     }
 
-    /// The queue toward memory at a memory-side position of a stage, with its wait buffer. Stages
-    /// count from 0, positions too.
+    /// The queue toward memory at a memory-side position of a stage, with its wait buffer. Both are
+    /// counted from 0: the stage is below the number of stages, the position below that of
+    /// processing elements.
     pub fn lane(&self, stage: u32, position: u32) -> &ToMm
         requires stage { stage < self.now.config.stages }
         requires position { position < 2 ^ self.now.config.stages }
@@ -322,11 +340,13 @@ impl Blocks {
         ensures waits { result.now.wait_places ≡ self.now.config.wait_places }
     {
         let number = switch_number(self.parts.config.net(), stage, position / 2);
-        let switch = self.parts.home_of(number).switch(number);
+        let switch = self.parts.block_of(number).switch(number);
         at(&switch.to_mm, position % 2)
     }
 
-    /// The queue toward the processing elements at a PE-side position of a stage.
+    /// The queue toward the processing elements at a PE-side position of a stage. Both are counted
+    /// from 0: the stage is below the number of stages, the position below that of processing
+    /// elements.
     pub fn reply_queue(&self, stage: u32, position: u32) -> &ToPe
         requires stage { stage < self.now.config.stages }
         requires position { position < 2 ^ self.now.config.stages }
@@ -334,7 +354,7 @@ impl Blocks {
         ensures places { result.now.places ≡ self.now.config.reply_places }
     {
         let number = switch_number(self.parts.config.net(), stage, position / 2);
-        let switch = self.parts.home_of(number).switch(number);
+        let switch = self.parts.block_of(number).switch(number);
         at(&switch.to_pe, position % 2)
     }
 
@@ -350,7 +370,7 @@ impl Blocks {
         ensures waits { result.now.wait_places ≡ self.now.config.wait_places }
     {
         let unit = switch_number(net, stage, position / 2);
-        let only = self.parts.home_in_one(unit);
+        let only = self.parts.block_in_one(unit);
         at(&only.switch(unit).to_mm, position % 2)
     }
 
@@ -365,7 +385,7 @@ impl Blocks {
         ensures places { result.now.places ≡ self.now.config.reply_places }
     {
         let unit = switch_number(net, stage, position / 2);
-        let only = self.parts.home_in_one(unit);
+        let only = self.parts.block_in_one(unit);
         at(&only.switch(unit).to_pe, position % 2)
     }
 
@@ -380,20 +400,20 @@ impl Blocks {
         ensures most_open { result.now.interface.most_open ≡ self.now.config.most_open }
     {
         let unit = element_number(net, pe);
-        self.parts.home_in_one(unit).element(pe)
+        self.parts.block_in_one(unit).element(pe)
     }
 
-    /// A memory module, by its number.
+    /// A memory module, by its number from 0. There are as many as processing elements.
     pub fn memory_module(&self, number: u32) -> &Module
         requires number { number < 2 ^ self.now.config.stages }
         ensures state { result.now ≡ module_at self.now.machine number }
         ensures cells { length result.now.cells ≡ self.now.config.cells }
     {
         let unit = module_number(self.parts.config.net(), number);
-        self.parts.home_of(unit).module(number)
+        self.parts.block_of(unit).module(number)
     }
 
-    /// A processing element, by its number.
+    /// A processing element, by its number from 0.
     pub fn element(&self, pe: Pe) -> &ProcessingElement
         requires pe { pe < 2 ^ self.now.config.stages }
         ensures state { element_of result.now ≡ element_at self.now.machine pe }
@@ -401,7 +421,7 @@ impl Blocks {
         ensures most_open { result.now.interface.most_open ≡ self.now.config.most_open }
     {
         let unit = element_number(self.parts.config.net(), pe);
-        self.parts.home_of(unit).element(pe)
+        self.parts.block_of(unit).element(pe)
     }
 }
 

@@ -53,7 +53,8 @@ pub(crate) fn fresh_block(
     config: &Config,
     program: &Program,
 ) -> Result<Block, AllocError>
-    ensures { IfOk result (λ b. MakeUp config.now program.now (replicate (unit_count config.now.stages) 0) 0 (start config.now) (b ∷ [])) }
+    ensures { IfOk result (λ b. MakeUp config.now program.now
+        (replicate (unit_count config.now.stages) 0) 0 (start config.now) (b ∷ [])) }
 {
     // for the prover: the settings are in their ranges
     let _initial = config.initial();
@@ -85,7 +86,9 @@ pub(crate) fn empty_blocks(
     block: &Block,
     count: usize,
 ) -> Result<Vec<Block>, AllocError>
-    ensures { IfOk result (λ v. (length v.items ≡ count) × All (λ b. b ≡ record (empty_block block.now.stages block.now.program) { done = block.now.done }) v.items) }
+    ensures { IfOk result (λ v. (length v.items ≡ count) × All
+        (λ b. b ≡ record (empty_block block.now.stages block.now.program) { done = block.now.done })
+        v.items) }
 {
     (0..count)
         .map(|_| Block::empty_after(alloc, block.net(), block.program(), block.done()))

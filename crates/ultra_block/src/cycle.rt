@@ -15,7 +15,8 @@ use ultra_topology::is_small;
 /// The blocks of a machine, which has made `done` cycles, make one more: replies, memory, requests,
 /// processors.
 pub(crate) fn make_cycle(blocks: &mut [Block], config: &Config, partition: &[u8], done: u32)
-    requires whole { (program : List Instr) × AreWhole config.now program partition.now done blocks.old }
+    requires whole { (program : List Instr) ×
+        AreWhole config.now program partition.now done blocks.old }
     requires counted { done < 2 ^ 32 - 1 }
     ensures { MakesCycle config.now partition.now done blocks.old blocks.new }
 {
@@ -28,10 +29,11 @@ pub(crate) fn make_cycle(blocks: &mut [Block], config: &Config, partition: &[u8]
 
 /// Blocks, however many, make a cycle. All make a half before any makes the next, and between the
 /// two halves of a phase each message goes to the block of the unit to which it leads. It is a
-/// separate function, so that a machine in one block makes no room for what is noted here.
+/// separate function, so that a cycle of one block needs no stack space for what is noted here.
 #[inline(never)]
 fn make_cycle_of_several(blocks: &mut [Block], config: &Config, partition: &[u8], done: u32)
-    requires whole { (program : List Instr) × AreWhole config.now program partition.now done blocks.old }
+    requires whole { (program : List Instr) ×
+        AreWhole config.now program partition.now done blocks.old }
     requires counted { done < 2 ^ 32 - 1 }
     ensures { MakesCycle config.now partition.now done blocks.old blocks.new }
 {
@@ -53,8 +55,10 @@ fn make_cycle_of_several(blocks: &mut [Block], config: &Config, partition: &[u8]
 #[inline(never)]
 fn make_cycle_of_one<const SMALL: bool>(block: &mut Block)
     requires small { SMALL ≡ true → IsSmall block.old.stages }
-    requires whole { (c : Settings) × (program : List Instr) × (partition : List ℕ) × (n : ℕ) × AreWhole c program partition n (block.old ∷ []) × (n < 2 ^ 32 - 1) }
-    ensures { (c : Settings) (partition : List ℕ) (n : ℕ) → n < 2 ^ 32 - 1 → MakesCycle c partition n (block.old ∷ []) (block.new ∷ []) }
+    requires whole { (c : Settings) × (program : List Instr) × (partition : List ℕ) × (n : ℕ) ×
+        AreWhole c program partition n (block.old ∷ []) × (n < 2 ^ 32 - 1) }
+    ensures { (c : Settings) (partition : List ℕ) (n : ℕ) → n < 2 ^ 32 - 1 →
+        MakesCycle c partition n (block.old ∷ []) (block.new ∷ []) }
 {
     block.send_replies_by_own_rooms::<SMALL>();
     block.take_replies_sized::<SMALL>();

@@ -37,7 +37,7 @@ impl From<AllocError> for PartitionFault {
 }
 
 /// How many units a machine of these settings has: at most 320.
-pub fn count_units(config: &Config) -> usize
+pub fn unit_count(config: &Config) -> usize
     ensures few { result ≤ MOST_UNITS }
     ensures value { result ≡ unit_count config.now.stages }
 {
@@ -65,5 +65,5 @@ fn are_blocks(partition: &[u8]) -> bool
 pub(crate) fn names_all_units(config: &Config, partition: &[u8]) -> bool
     ensures { result ≡ is_partition config.now partition.now }
 {
-    partition.len() == count_units(config) && are_blocks(partition)
+    partition.len() == unit_count(config) && are_blocks(partition)
 }

@@ -29,8 +29,10 @@ impl Block {
     #[inline(always)]
     #[tactic(auto, using(crate::proofs::Known::next_away))]
     pub fn next_reply_target_elsewhere(&self, from: usize) -> Option<usize>
-        ensures some { IfSome result (λ k. IsNextAway self.now.replies (reply_inlets self.now.stages) self.now from k) }
-        ensures none { IfNone result (AllStayWithin self.now.replies (reply_inlets self.now.stages) self.now from MOST_UNITS) }
+        ensures some { IfSome result (λ k.
+            IsNextAway self.now.replies (reply_inlets self.now.stages) self.now from k) }
+        ensures none { IfNone result (AllStayWithin self.now.replies
+            (reply_inlets self.now.stages) self.now from MOST_UNITS) }
     {
         next_of(self.replies.targets().without(&self.sets.here), from)
     }
@@ -44,7 +46,8 @@ impl Block {
         requires links { reply_inlets self.old.stages unit ≡ Some inlets }
         requires small { unit < MOST_UNITS }
         ensures value { result ≡ taken_by_turns self.old.replies inlets }
-        ensures left { self.new ≡ record self.old { replies = without_both self.old.replies inlets } }
+        ensures left { self.new ≡
+            record self.old { replies = without_both self.old.replies inlets } }
     {
         // for the prover: a network has 1 to `MOST_STAGES` stages
         let _stages = self.net.stages();
@@ -60,7 +63,8 @@ impl Block {
     )
         requires links { reply_inlets self.old.stages unit ≡ Some inlets }
         requires small { unit < MOST_UNITS }
-        ensures received { self.new ≡ record self.old { replies = put_on_both self.old.replies inlets replies } }
+        ensures received { self.new ≡
+            record self.old { replies = put_on_both self.old.replies inlets replies } }
         ensures links { length self.old.replies ≡ link_count self.old.stages }
     {
         // for the prover: a network has 1 to `MOST_STAGES` stages
@@ -73,8 +77,10 @@ impl Block {
     #[inline(always)]
     #[tactic(auto, using(crate::proofs::Known::next_away))]
     pub fn next_request_target_elsewhere(&self, from: usize) -> Option<usize>
-        ensures some { IfSome result (λ k. IsNextAway self.now.requests (request_inlets self.now.stages) self.now from k) }
-        ensures none { IfNone result (AllStayWithin self.now.requests (request_inlets self.now.stages) self.now from MOST_UNITS) }
+        ensures some { IfSome result (λ k.
+            IsNextAway self.now.requests (request_inlets self.now.stages) self.now from k) }
+        ensures none { IfNone result (AllStayWithin self.now.requests
+            (request_inlets self.now.stages) self.now from MOST_UNITS) }
     {
         next_of(self.requests.targets().without(&self.sets.here), from)
     }
@@ -88,7 +94,8 @@ impl Block {
         requires links { request_inlets self.old.stages unit ≡ Some inlets }
         requires small { unit < MOST_UNITS }
         ensures value { result ≡ taken_by_turns self.old.requests inlets }
-        ensures left { self.new ≡ record self.old { requests = without_both self.old.requests inlets } }
+        ensures left { self.new ≡
+            record self.old { requests = without_both self.old.requests inlets } }
     {
         // for the prover: a network has 1 to `MOST_STAGES` stages
         let _stages = self.net.stages();
@@ -104,7 +111,8 @@ impl Block {
     )
         requires links { request_inlets self.old.stages unit ≡ Some inlets }
         requires small { unit < MOST_UNITS }
-        ensures received { self.new ≡ record self.old { requests = put_on_both self.old.requests inlets requests } }
+        ensures received { self.new ≡
+            record self.old { requests = put_on_both self.old.requests inlets requests } }
         ensures links { length self.old.requests ≡ link_count self.old.stages }
     {
         // for the prover: a network has 1 to `MOST_STAGES` stages

@@ -66,7 +66,8 @@ impl Block {
     /// Puts a switch into the block, by its number.
     pub fn put_switch(&mut self, number: usize, switch: Switch)
         requires { number < count_of_switches self.old.stages }
-        ensures { self.new ≡ record self.old { switches = slice_set self.old.switches number (Some switch) } }
+        ensures { self.new ≡
+            record self.old { switches = slice_set self.old.switches number (Some switch) } }
     {
         // for the prover: there are at most 192 switches
         let _count = switch_count(self.net);
@@ -77,7 +78,8 @@ impl Block {
     /// Puts a memory module into the block, by its number among modules.
     pub fn put_module(&mut self, number: u32, memory_module: Module)
         requires { number < 2 ^ self.old.stages }
-        ensures { self.new ≡ record self.old { modules = slice_set self.old.modules number (Some memory_module) } }
+        ensures { self.new ≡
+            record self.old { modules = slice_set self.old.modules number (Some memory_module) } }
     {
         let unit = UnitNumber::of(module_number(self.net, number));
         self.sets.add_module(unit, &memory_module);
@@ -87,7 +89,8 @@ impl Block {
     /// Puts a processing element into the block, by its number.
     pub fn put_element(&mut self, pe: u32, element: ProcessingElement)
         requires { pe < 2 ^ self.old.stages }
-        ensures { self.new ≡ record self.old { elements = slice_set self.old.elements pe (Some element) } }
+        ensures { self.new ≡
+            record self.old { elements = slice_set self.old.elements pe (Some element) } }
     {
         let unit = UnitNumber::of(element_number(self.net, pe));
         self.sets.add_element(unit, &element);
@@ -130,8 +133,10 @@ impl Block {
 
     /// Exchanges its events and stops for those of another block.
     pub fn swap_events_with(&mut self, other: &mut Block)
-        ensures here { self.new ≡ record self.old { events = other.old.events; stops = other.old.stops } }
-        ensures there { other.new ≡ record other.old { events = self.old.events; stops = self.old.stops } }
+        ensures here { self.new ≡
+            record self.old { events = other.old.events; stops = other.old.stops } }
+        ensures there { other.new ≡
+            record other.old { events = self.old.events; stops = self.old.stops } }
     {
         swap(&mut self.events, &mut other.events);
         swap(&mut self.stops, &mut other.stops);

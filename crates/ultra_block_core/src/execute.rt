@@ -10,7 +10,8 @@ use ultra_unit_steps::{StepOutcome, append};
 
 impl Block {
     /// The last half of a cycle: each processing element makes one step of the program. The cycles
-    /// that are done are fewer than `2^32 - 1`.
+    /// that are done must be fewer than `2^32 - 1`, and the lists of events and faults must have
+    /// room for those of the half.
     #[inline(always)]
     pub fn execute(&mut self)
         requires can { (k : ℕ) → k < MOST_UNITS → CanExecuteAt k self.old }

@@ -2,7 +2,7 @@
 //!
 //! A block keeps sets of unit numbers, each a fact about its units or about what is on links. A
 //! half of a cycle visits only the units of one of them, since it leaves all others as they are.
-//! `docs/CRATES.md` lists the sets: what each says, who notes it, and who reads it.
+//! `docs/CRATES.md` lists the sets: what each says, and what adds a unit to it and removes one.
 //!
 //! The code that changes units is compiled twice, by the constant `SMALL`. One copy is for a
 //! machine in one block of at most 4 stages: all of its units, at most 64, are in the first word of

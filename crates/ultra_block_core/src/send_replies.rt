@@ -26,7 +26,8 @@ fn may_go<const OPEN: bool>(
     targets: &Ports<UnitNumber>,
 ) -> Ports<bool>
     requires { OPEN ≡ true → HasNoneFrom closed.now 0 }
-    ensures { (net index : ℕ) → targets.now ≡ reply_targets net stage index → result ≡ reply_ways closed.now net stage index }
+    ensures { (net index : ℕ) → targets.now ≡ reply_targets net stage index →
+        result ≡ reply_ways closed.now net stage index }
 {
     if OPEN {
         Ports {
@@ -57,8 +58,14 @@ fn send_from_switch<const OPEN: bool>(
     requires targets { targets ≡ reply_targets net stage index }
     requires lead { LeadOn (reply_inlets net) net number targets }
     requires stages { links.old.stages ≡ net }
-    ensures switch { switch.new ≡ without_replies switch.old (replies_leaving (reply_ways closed.now net stage index) switch.old) }
-    ensures links { links.new ≡ record links.old { table = put_on_both links.old.table (places_of net stage index) (replies_leaving (reply_ways closed.now net stage index) switch.old); targets = links.new.targets } }
+    ensures switch { switch.new ≡ without_replies switch.old
+        (replies_leaving (reply_ways closed.now net stage index) switch.old) }
+    ensures links { links.new ≡
+        record links.old {
+          table = put_on_both links.old.table (places_of net stage index)
+              (replies_leaving (reply_ways closed.now net stage index) switch.old);
+          targets = links.new.targets;
+        } }
 {
     let ways = may_go::<OPEN>(closed, stage, &targets);
     let link = 2 * number;
@@ -106,7 +113,8 @@ impl Block {
     fn send_replies_sized<const SMALL: bool>(&mut self, closed: &UnitSet)
         requires small { SMALL ≡ true → IsSmall self.old.stages }
         requires closed { SMALL ≡ true → HasNoneFrom closed.now 64 }
-        ensures { self.new ≡ after_units (sends_replies closed.now) MOST_UNITS (without_events self.old) }
+        ensures { self.new ≡
+            after_units (sends_replies closed.now) MOST_UNITS (without_events self.old) }
     {
         self.clear_events();
         self.send_held_replies::<SMALL>(closed);
@@ -116,7 +124,8 @@ impl Block {
     /// onto their links. What had happened in the cycle before is forgotten.
     #[inline(always)]
     pub fn send_replies(&mut self, rooms: &Rooms)
-        ensures { self.new ≡ after_units (sends_replies rooms.now.no_reply_room) MOST_UNITS (without_events self.old) }
+        ensures { self.new ≡ after_units (sends_replies rooms.now.no_reply_room) MOST_UNITS
+            (without_events self.old) }
     {
         self.send_replies_sized::<false>(&rooms.no_reply_room);
     }
@@ -125,7 +134,8 @@ impl Block {
     #[inline(always)]
     pub fn send_replies_by_own_rooms<const SMALL: bool>(&mut self)
         requires small { SMALL ≡ true → IsSmall self.old.stages }
-        ensures { (rooms : Rooms) × AreOwnRooms self.old rooms × (self.new ≡ after_units (sends_replies rooms.no_reply_room) MOST_UNITS (without_events self.old)) }
+        ensures { (rooms : Rooms) × AreOwnRooms self.old rooms × (self.new ≡
+            after_units (sends_replies rooms.no_reply_room) MOST_UNITS (without_events self.old)) }
     {
         // for the prover: a network has 1 to `MOST_STAGES` stages
         let _stages = self.net.stages();
@@ -193,7 +203,8 @@ struct SendReplies<'a, const SMALL: bool, const OPEN: bool> {
 
 #[tactic(auto, using(crate::proofs::Visited::sends_no_reply))]
 impl<const SMALL: bool, const OPEN: bool> Visit<Block> for SendReplies<'_, SMALL, OPEN> {
-    ghost can_visit = { λ v n b. (SMALL ≡ true → IsSmall b.stages) × (OPEN ≡ true → HasNoneFrom v.closed.now 0) };
+    ghost can_visit = { λ v n b. (SMALL ≡ true → IsSmall b.stages) ×
+        (OPEN ≡ true → HasNoneFrom v.closed.now 0) };
 
     ghost visited = { λ v n b. sends_replies v.closed.now n b };
 

@@ -39,7 +39,8 @@ fn may_go<const OPEN: bool>(
 ) -> bool
     requires stage { stage < net }
     requires open { OPEN ≡ true → AreOpenFrom 0 closed.now }
-    ensures { (x : ℕ) → target ≡ request_target net stage x → result ≡ has_request_way closed.now net stage x head }
+    ensures { (x : ℕ) → target ≡ request_target net stage x →
+        result ≡ has_request_way closed.now net stage x head }
 {
     if OPEN {
         head.is_some()
@@ -58,7 +59,8 @@ fn may_leave<const OPEN: bool>(
     head: Option<RequestPacket>,
 ) -> bool
     requires { OPEN ≡ true → AreOpenFrom 0 closed.now }
-    ensures { (pe : ℕ) → target ≡ switch_number net 0 (shuffled net pe / 2) → result ≡ way_from_element closed.now net pe head }
+    ensures { (pe : ℕ) → target ≡ switch_number net 0 (shuffled net pe / 2) →
+        result ≡ way_from_element closed.now net pe head }
 {
     if OPEN {
         head.is_some()
@@ -82,9 +84,14 @@ fn send_from_queue<const OPEN: bool>(
     requires stage { stage < net }
     requires open { OPEN ≡ true → AreOpenFrom 0 closed.now }
     requires leads { LeadsTo (request_inlets links.old.stages) links.old.stages link target }
-    ensures queue { (x : ℕ) → target ≡ request_target net stage x → queue.new ≡ lane_without queue.old (request_leaving closed.now net stage x queue.old) }
-    ensures links { (x : ℕ) → target ≡ request_target net stage x → links.new ≡ record links.old { table = put_on links.old.table link (request_leaving closed.now net stage x queue.old); targets = links.new.targets } }
-    ensures goes { (x : ℕ) → target ≡ request_target net stage x → result ≡ is_some (request_leaving closed.now net stage x queue.old) }
+    ensures queue { (x : ℕ) → target ≡ request_target net stage x →
+        queue.new ≡ lane_without queue.old (request_leaving closed.now net stage x queue.old) }
+    ensures links { (x : ℕ) → target ≡ request_target net stage x → links.new ≡ record links.old {
+      table = put_on links.old.table link (request_leaving closed.now net stage x queue.old);
+      targets = links.new.targets;
+    } }
+    ensures goes { (x : ℕ) → target ≡ request_target net stage x →
+        result ≡ is_some (request_leaving closed.now net stage x queue.old) }
 {
     let goes = may_go::<OPEN>(net, closed, stage, target, queue.head_packet());
     links.put(link, target, send_head_if(goes, queue));
@@ -110,9 +117,18 @@ fn send_from_switch<const OPEN: bool>(
     requires targets { targets ≡ request_targets net stage index }
     requires lead { LeadOn (request_inlets net) net number targets }
     requires stages { links.old.stages ≡ net }
-    ensures switch { switch.new ≡ without_requests switch.old (requests_leaving (request_ways closed.now net stage index (request_heads switch.old)) switch.old) }
-    ensures links { links.new ≡ record links.old { table = put_on_both links.old.table (places_of net stage index) (requests_leaving (request_ways closed.now net stage index (request_heads switch.old)) switch.old); targets = links.new.targets } }
-    ensures go { let leaving = requests_leaving (request_ways closed.now net stage index (request_heads switch.old)) switch.old in result ≡ is_some leaving.zero || is_some leaving.one }
+    ensures switch { switch.new ≡ without_requests switch.old (requests_leaving
+        (request_ways closed.now net stage index (request_heads switch.old)) switch.old) }
+    ensures links { links.new ≡
+        record links.old {
+          table = put_on_both links.old.table (places_of net stage index)
+              (requests_leaving (request_ways closed.now net stage index (request_heads switch.old))
+              switch.old);
+          targets = links.new.targets;
+        } }
+    ensures go { let leaving = requests_leaving
+        (request_ways closed.now net stage index (request_heads switch.old)) switch.old in
+        result ≡ is_some leaving.zero || is_some leaving.one }
 {
     // for the prover: a network has 1 to `MOST_STAGES` stages
     let _stages = net.stages();
@@ -151,7 +167,8 @@ impl Block {
     /// there is room, onto their links.
     #[inline(always)]
     pub fn send_requests(&mut self, rooms: &Rooms)
-        ensures { self.new ≡ after_units (sends_requests rooms.now.no_request_room) MOST_UNITS self.old }
+        ensures { self.new ≡
+            after_units (sends_requests rooms.now.no_request_room) MOST_UNITS self.old }
     {
         self.send_requests_sized::<false>(&rooms.no_request_room);
     }
@@ -160,7 +177,8 @@ impl Block {
     #[inline(always)]
     pub fn send_requests_by_own_rooms<const SMALL: bool>(&mut self)
         requires small { SMALL ≡ true → IsSmall self.old.stages }
-        ensures { (rooms : Rooms) × AreOwnRooms self.old rooms × (self.new ≡ after_units (sends_requests rooms.no_request_room) MOST_UNITS self.old) }
+        ensures { (rooms : Rooms) × AreOwnRooms self.old rooms ×
+            (self.new ≡ after_units (sends_requests rooms.no_request_room) MOST_UNITS self.old) }
     {
         // for the prover: a network has 1 to `MOST_STAGES` stages
         let _stages = self.net.stages();
@@ -230,7 +248,8 @@ struct SendRequests<'a, const SMALL: bool, const OPEN: bool> {
 
 #[tactic(auto, using(crate::proofs::Visited::sends_no_request))]
 impl<const SMALL: bool, const OPEN: bool> Visit<Block> for SendRequests<'_, SMALL, OPEN> {
-    ghost can_visit = { λ v n b. (SMALL ≡ true → IsSmall b.stages) × (OPEN ≡ true → AreOpenFrom 0 v.closed.now) };
+    ghost can_visit = { λ v n b. (SMALL ≡ true → IsSmall b.stages) ×
+        (OPEN ≡ true → AreOpenFrom 0 v.closed.now) };
 
     ghost visited = { λ v n b. sends_requests v.closed.now n b };
 

@@ -11,7 +11,7 @@ use ultra_unit_steps::append;
 
 impl Block {
     /// The third half of a cycle: each module serves the request that waits, if no reply is in its
-    /// way.
+    /// way. The list of events must have room for those of the half.
     #[inline(always)]
     pub fn serve(&mut self)
         requires { (k : ℕ) → k < MOST_UNITS → HasEventRoom k self.old }

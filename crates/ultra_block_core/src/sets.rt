@@ -137,7 +137,9 @@ impl Sets {
     /// record that it didn't keep before.
     #[inline(always)]
     pub(crate) fn note_switch_took_replies(&mut self, unit: UnitNumber, switch: &Switch)
-        ensures { AreNoted unit (λ f. record (replies_noted ◌||◌ switch.now f) { keeps_records = f.keeps_records && keeps_records switch.now }) self.old self.new }
+        ensures { AreNoted unit (λ f. record (replies_noted ◌||◌ switch.now f) {
+          keeps_records = f.keeps_records && keeps_records switch.now;
+        }) self.old self.new }
     {
         let is_full = !switches::has_reply_room(switch);
         self.holds_replies
@@ -185,7 +187,9 @@ impl Sets {
     /// Notes what is true of a module of the block, once it has served.
     #[inline(always)]
     pub(crate) fn note_module_served(&mut self, unit: UnitNumber, memory_module: &Module)
-        ensures { AreNoted unit (λ f. record (request_noted ◌&&◌ memory_module.now f) { holds_replies = f.holds_replies || is_some memory_module.now.out }) self.old self.new }
+        ensures { AreNoted unit (λ f. record (request_noted ◌&&◌ memory_module.now f) {
+          holds_replies = f.holds_replies || is_some memory_module.now.out;
+        }) self.old self.new }
     {
         let holds_reply = modules::holds_reply(memory_module);
         let holds_request = modules::holds_request(memory_module);
@@ -199,7 +203,11 @@ impl Sets {
     /// Notes what is true of a module of the block, once a reply has left it.
     #[inline(always)]
     pub(crate) fn note_module_sent_reply(&mut self, unit: UnitNumber, memory_module: &Module)
-        ensures { AreNoted unit (λ f. record f { holds_replies = f.holds_replies && is_some memory_module.now.out; to_serve = f.to_serve || would_serve memory_module.now }) self.old self.new }
+        ensures { AreNoted unit
+            (λ f. record f {
+              holds_replies = f.holds_replies && is_some memory_module.now.out;
+              to_serve = f.to_serve || would_serve memory_module.now;
+            }) self.old self.new }
     {
         let holds_reply = modules::holds_reply(memory_module);
         self.holds_replies.remove_unless(unit, holds_reply);
@@ -229,7 +237,9 @@ impl Sets {
         unit: UnitNumber,
         element: &ProcessingElement,
     )
-        ensures { AreNoted unit (λ f. record f { holds_requests = f.holds_requests && holds_request element.now }) self.old self.new }
+        ensures { AreNoted unit
+            (λ f. record f { holds_requests = f.holds_requests && holds_request element.now })
+            self.old self.new }
     {
         self.holds_requests
             .remove_unless(unit, element.holds_request());

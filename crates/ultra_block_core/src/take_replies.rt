@@ -30,8 +30,12 @@ fn take_into_switch(
     requires inlets { AreInlets (reply_inlets net) net unit inlets }
     requires stages { links.old.stages ≡ net }
     requires room { CanTakeReplies switch.old (on_both links.old.table inlets) }
-    ensures switch { switch.new ≡ after_replies net stage switch.old (on_both links.old.table inlets) }
-    ensures links { links.new ≡ record links.old { table = without_both links.old.table inlets; targets = links.new.targets } }
+    ensures switch { switch.new ≡
+        after_replies net stage switch.old (on_both links.old.table inlets) }
+    ensures links { links.new ≡ record links.old {
+      table = without_both links.old.table inlets;
+      targets = links.new.targets;
+    } }
 {
     let Switch { to_mm, to_pe } = switch;
     let zero = links.take(inlets.zero);
@@ -44,6 +48,9 @@ fn take_into_switch(
 impl Block {
     /// The second half of a cycle: the replies on links that lead to units here are split and go on
     /// in switches, and are delivered to processing elements.
+    ///
+    /// What has come must have room. The cell of a delivered reply must be open, and its request
+    /// must have left the list of the interface.
     #[inline(always)]
     pub fn take_replies(&mut self)
         requires { (k : ℕ) → k < MOST_UNITS → CanTakeRepliesAt k self.old }

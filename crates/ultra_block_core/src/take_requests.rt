@@ -13,7 +13,7 @@ use ultra_topology::{
     Links, Unit, UnitNumber, UnitSet, Visit, ports_in_turn, take_for_module, visit_all,
 };
 use ultra_unit_steps::modules;
-use ultra_unit_steps::requests::{is_turned, put_in_order, take_request};
+use ultra_unit_steps::requests::{are_ports_reversed, put_in_order, take_request};
 
 /// What comes to a switch by two links goes into its queues, where it may combine. The request on
 /// the first link of `in_turn` is taken in before that on the second. Combinations are appended to
@@ -32,17 +32,25 @@ fn take_into_switch(
 ) -> bool
     requires is { IsSwitch net unit stage index }
     requires inlets { AreInlets (request_inlets net) net unit (request_links net stage index) }
-    requires turn { (zero_first : Bool) × (in_turn ≡ ports_in_turn zero_first (request_links net stage index)) }
+    requires turn { (zero_first : Bool) ×
+        (in_turn ≡ ports_in_turn zero_first (request_links net stage index)) }
     requires stages { links.old.stages ≡ net }
     requires first { ForSome (on_link links.old.table in_turn.0) (HasWay net stage switch.old) }
     requires second { ForSome (on_link links.old.table in_turn.1) (HasWay net stage switch.old) }
     requires event_room { length events.old.items + 2 ≤ vec_capacity events.old }
-    ensures switch { switch.new ≡ after_both net stage switch.old (on_link links.old.table in_turn.0) (on_link links.old.table in_turn.1) }
-    ensures events { events.new.items ≡ events.old.items ++ combinations_of_both net stage index switch.old (on_link links.old.table in_turn.0) (on_link links.old.table in_turn.1) }
+    ensures switch { switch.new ≡ after_both net stage switch.old
+        (on_link links.old.table in_turn.0) (on_link links.old.table in_turn.1) }
+    ensures events { events.new.items ≡ events.old.items ++ combinations_of_both net stage index
+        switch.old (on_link links.old.table in_turn.0) (on_link links.old.table in_turn.1) }
     ensures places { vec_capacity events.old ≤ vec_capacity events.new }
     ensures few { length events.new.items ≤ length events.old.items + 2 }
-    ensures none { (result ≡ false) ↔ (combinations_of_both net stage index switch.old (on_link links.old.table in_turn.0) (on_link links.old.table in_turn.1) ≡ []) }
-    ensures links { links.new ≡ record links.old { table = without_both links.old.table (request_links net stage index); targets = links.new.targets } }
+    ensures none { (result ≡ false) ↔ (combinations_of_both net stage index switch.old
+        (on_link links.old.table in_turn.0) (on_link links.old.table in_turn.1) ≡ []) }
+    ensures links { links.new ≡ record links.old {
+      table = without_both links.old.table
+          (request_links net stage index);
+      targets = links.new.targets;
+    } }
 {
     let to_mm = &mut switch.to_mm;
     let first = links.take(in_turn.0);
@@ -51,7 +59,7 @@ fn take_into_switch(
     let second_combines = take_request(to_mm, net, stage, index, &second, events);
     links.clear(unit);
     if first_combines & second_combines {
-        put_in_order(events, is_turned(net, stage, &first, &second));
+        put_in_order(events, are_ports_reversed(net, stage, &first, &second));
     }
     first_combines | second_combines
 }
@@ -59,6 +67,8 @@ fn take_into_switch(
 impl Block {
     /// The fifth half of a cycle: takes the requests on links that lead to units here. They go into
     /// the queues of switches, where they may combine, and into the registers of modules.
+    ///
+    /// Each queue must have room for what has come, and the register of the module must be empty.
     #[inline(always)]
     pub fn take_requests(&mut self)
         requires { (k : ℕ) → k < MOST_UNITS → CanTakeRequestsAt k self.old }

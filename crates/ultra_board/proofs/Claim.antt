@@ -1,5 +1,6 @@
--- an add to claim keeps the rule
+-- the steps on claim keep the rule
 use Rattle.std.proofs.Common.{◌≡◌, ℕ, ◌+◌, ◌%◌, ◌^◌, ◌<◌, ◌≤◌, List, [], ◌∷◌, ◌++◌, true, false, length, set, refl, subst, arith, ⊎_elim, get_or-set_same, get_or-set_other, min, ◌∙◌, length-append}
+use Rattle.std.proofs.lemmas.List.{set-get_or}
 use Rattle.std.proofs.Math.ListN.{length-set}
 use Rattle.std.specs.Prelude.{slice_index, slice_set}
 use lib.ListN.{get_elem?}
@@ -10,10 +11,10 @@ use Rattle.atomic_table.specs.Table.{State}
 use Rattle.ultra_board.specs.declared.rule.View.{View}
 use Rattle.ultra_board.specs.declared.rule.Limits.{Limits}
 use Rattle.ultra_board.specs.View.{total_over_views, times, spent_places}
-use Rattle.ultra_board.specs.Step.{AddsToClaim}
+use Rattle.ultra_board.specs.Step.{AddsToClaim, LoadsClaim}
 use Rattle.ultra_board.specs.Rule.{IsBoardRule, IsSoundView}
 use Rattle.ultra_board.proofs.Sums.{total_over_views-set, total_over_views-set_same, one-le-total_over_views, spent_places-beside}
-use Rattle.ultra_board.proofs.Times.{times-push, times_below-more, times_below-itself, not_contained-times}
+use Rattle.ultra_board.proofs.Times.{times-push, times_below-le, times_below-more, times_below-itself, not_contained-times}
 
 -- the words after an add to claim
 pub after_claim : (words : List ℕ) (n : ℕ) → length words ≡ 3 → (slice_index (slice_set words 0 n) 0 ≡ n) × (slice_index (slice_set words 0 n) 1 ≡ slice_index words 1) × (slice_index (slice_set words 0 n) 2 ≡ slice_index words 2) × (length (slice_set words 0 n) ≡ 3)
@@ -139,3 +140,46 @@ module _ (k : Limits) (s : State ℕ View) (h : IsBoardRule k s) (place : ℕ) (
         | yes le ↦ (record v { spent = true; claims = v.claims + 1 }, rw no_wrap (spent unspent some_place le), record { drawn = λ lt. absurd (omega arith); fresh = λ lt. absurd (omega arith); unfinished = λ lt. absurd (omega arith); spent = λ q. refl })
         | no ne ↦ let lt : n < k.limit = omega arith in (record v { drawn = v.drawn ++ n ∷ []; claims = v.claims + 1 }, rw no_wrap (drawn some_place lt), record { drawn = λ q. refl; fresh = λ q. not_contained-times n v.drawn (fresh lt); unfinished = λ q. not_contained-times n v.finished (let none = fresh lt in let le = (h.views place v e).finished n in omega arith); spent = λ q. absurd (omega arith) })
       ]
+
+  loaded_words : (w : View) → IsBoardRule k record { words = s.words; homes = s.homes; views = set s.views place w } → IsBoardRule k record { words = slice_set s.words 0 (slice_index s.words 0); homes = s.homes; views = set s.views place w }
+  loaded_words w kept = rw (set-get_or s.words 0 0) kept
+
+  pub loads_claim : (w : View) × IsBoardRule k record { words = slice_set s.words 0 (slice_index s.words 0); homes = s.homes; views = slice_set s.views place w } × LoadsClaim v w
+  loads_claim =
+      let n = slice_index s.words 0 in
+      let w : View = record v { claim_loads = v.claim_loads + 1 } in
+      let its = h.views place v e in
+      let mine = one-le-total_over_views (λ (v : View). v.places) s.views place v e in
+      let all = h.places in
+      let few = h.limits.seats in (
+        w,
+        loaded_words w record {
+          limits = h.limits;
+          words = h.words;
+          drawn = λ i. rw (same (λ (v : View). times i v.drawn) w refl) (h.drawn i);
+          drawn_count = rw (same (λ (v : View). length v.drawn) w refl) h.drawn_count;
+          claims = rw (same (λ (v : View). v.claims) w refl) h.claims;
+          claim = rw (same spent_places w refl) h.claim;
+          done = rw (same (λ (v : View). length v.finished) w refl) h.done;
+          passes = rw (same (λ (v : View). v.held + v.tries) w refl) h.passes;
+          bounded = rw (same (λ (v : View). v.held) w refl) h.bounded;
+          places = rw (same (λ (v : View). v.places) w refl) h.places;
+          views = all_sound k s.views place w n (slice_index s.words 1) n (slice_index s.words 1) h.views (omega arith) (omega arith) record {
+            finished = its.finished;
+            seen = its.seen;
+            spent = its.spent;
+            one_try = its.one_try;
+            limits = its.limits;
+            no_seat = its.no_seat;
+          };
+        },
+        record {
+          view = refl;
+          places = omega arith;
+          once = λ i.
+              let mine = one-le-total_over_views (λ (v : View). times i v.drawn) s.views place v e in
+              let all = h.drawn i in
+              let one = times_below-le i (min n k.limit) in
+              omega arith;
+        },
+      )

@@ -1,18 +1,16 @@
--- a split, a join and the load that counts places keep the rule
+-- a split and a join keep the rule
 use Rattle.std.proofs.Common.{◌≡◌, ℕ, ◌+◌, ◌-◌, ◌<◌, ◌≤◌, ◌⊎◌, [], ◌∷◌, ◌++◌, Bool, true, false, length, set, refl, subst, arith, ⊎_elim, inl, inr, length-append}
-use Rattle.std.proofs.lemmas.List.{set-get_or}
-use Rattle.std.specs.Prelude.{min, slice_index, slice_set, if◌then◌else◌, ◌||◌}
+use Rattle.std.specs.Prelude.{slice_index, if◌then◌else◌, ◌||◌}
 use lib.ListN.{get_elem?}
 use mathlib.Core.Option.{some}
-use Rattle.atomic_table.proofs.Lists.{at_set, at_snoc, set_again}
+use Rattle.atomic_table.proofs.Lists.{at_set, at_snoc}
 use Rattle.atomic_table.specs.Table.{State}
 use Rattle.ultra_board.specs.declared.rule.View.{View}
 use Rattle.ultra_board.specs.declared.rule.Limits.{Limits}
 use Rattle.ultra_board.specs.View.{total_over_views, times, spent_places, second_view, joined_view, no_view}
-use Rattle.ultra_board.specs.Step.{LoadsClaim}
 use Rattle.ultra_board.specs.Rule.{IsBoardRule, IsSoundView}
-use Rattle.ultra_board.proofs.Sums.{total_over_views-set, total_over_views-push, one-le-total_over_views}
-use Rattle.ultra_board.proofs.Times.{times-append, times_below-le}
+use Rattle.ultra_board.proofs.Sums.{total_over_views-set, total_over_views-push}
+use Rattle.ultra_board.proofs.Times.{times-append}
 
 split_spent : (b : Bool) (places : ℕ) → 2 ≤ places → (if b then places - 1 else 0) + (if b then 1 else 0) ≡ (if b then places else 0)
 split_spent true places two = omega arith
@@ -134,22 +132,3 @@ module _ (k : Limits) (s : State ℕ View) (h : IsBoardRule k s) (place other : 
             (λ t. ⊎_elim (λ t. subst Sound t.1 both_sound) (λ t. h.views n w t.1) (at_set s.views place n (joined_view v u) w t.1))
             (at_set (set s.views place (joined_view v u)) other n no_view w g);
       }
-
--- a load of claim
-pub loads_claim : (k : Limits) (s : State ℕ View) → IsBoardRule k s → (place : ℕ) (v : View) → get_elem? s.views place ≡ some v
-    → IsBoardRule k record { words = slice_set s.words 0 (slice_index s.words 0); homes = s.homes; views = slice_set s.views place v } × LoadsClaim v v
-loads_claim k s h place v e =
-    let mine = one-le-total_over_views (λ (v : View). v.places) s.views place v e in
-    let all = h.places in
-    let few = h.limits.seats in (
-      rw (set-get_or s.words 0 0, set_again s.views place v e) h,
-      record {
-        view = refl;
-        places = omega arith;
-        once = λ i.
-            let mine = one-le-total_over_views (λ (v : View). times i v.drawn) s.views place v e in
-            let all = h.drawn i in
-            let one = times_below-le i (min (slice_index s.words 0) k.limit) in
-            omega arith;
-      },
-    )

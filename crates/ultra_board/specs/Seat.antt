@@ -8,12 +8,12 @@ use Rattle.ultra_board.specs.declared.rule.Limits.{Limits}
 use Rattle.ultra_board.specs.View.{times, times_below, spent_places}
 
 -- a seat: which board it is of, and what it knows
-pub record Seated : Type 0 where
+pub record SeatState : Type 0 where
   pub board : TableId
   pub view : View
 
 -- a board: which one it is, and what it was opened with
-pub record Opened : Type 0 where
+pub record BoardState : Type 0 where
   pub id : TableId
   pub limits : Limits
 

@@ -47,9 +47,9 @@ pub record SubtractsFromPasses (v w : View) : Type 0 where
   pub undone : 0 < v.tries → w ≡ record v { tries = v.tries - 1 }
   pub left : v.tries ≡ 0 → w ≡ record v { held = v.held - 1 }
 
--- load of claim, which looks at no value: nothing changes. A seat has no more places than a board
+-- load of claim, which is counted and looks at no value. A seat has no more places than a board
 -- can have, and no number is drawn twice
 pub record LoadsClaim (v w : View) : Type 0 where
-  pub view : w ≡ v
+  pub view : w ≡ record v { claim_loads = v.claim_loads + 1 }
   pub places : v.places ≤ MOST_SEATS
   pub once : (i : ℕ) → times i v.drawn ≤ 1

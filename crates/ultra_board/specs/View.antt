@@ -10,6 +10,7 @@ first_view k =
     record {
       drawn = [];
       claims = 0;
+      claim_loads = 0;
       finished = [];
       seen = 0;
       reads = 0;
@@ -31,6 +32,7 @@ second_view v =
     record {
       drawn = [];
       claims = 0;
+      claim_loads = 0;
       finished = [];
       seen = 0;
       reads = 0;
@@ -50,6 +52,7 @@ abbrev pub joined_view : View → View → View
 joined_view v u = record {
   drawn = v.drawn ++ u.drawn;
   claims = v.claims + u.claims;
+  claim_loads = v.claim_loads + u.claim_loads;
   finished = v.finished ++ u.finished;
   seen = max v.seen u.seen;
   reads = v.reads + u.reads;
@@ -64,6 +67,10 @@ joined_view v u = record {
   places = v.places + u.places;
 }
 
+-- what a board's join makes of two seats: it joins them, and loads claim once
+abbrev pub view_after_join : View → View → View
+view_after_join v u = record (joined_view v u) { claim_loads = v.claim_loads + u.claim_loads + 1 }
+
 -- what is left behind of the second seat of a join, which is no seat: it has no numbers, passes or
 -- places
 abbrev pub no_view : View
@@ -71,6 +78,7 @@ no_view =
     record {
       drawn = [];
       claims = 0;
+      claim_loads = 0;
       finished = [];
       seen = 0;
       reads = 0;

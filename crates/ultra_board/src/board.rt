@@ -1,7 +1,7 @@
 //! The board, and what a seat can do there.
 ghost use Rattle.std.specs.Prelude.{◌≡◌, ℕ, ◌+◌, ◌-◌, ◌<◌, ◌≤◌, ◌⊎◌, ◌↔◌, ◌++◌, [], ◌∷◌, true, false, min, length, Contains, IfOk, IfErr, OnOk, IsErr, IsErrOf, IfSome, OnSome, IfNone};
 ghost use Rattle.std.specs.Bool.{OnTrue, OnFalse};
-ghost use Rattle.ultra_board.specs.View.{first_view, second_view, joined_view, times, times_below, spent_places};
+ghost use Rattle.ultra_board.specs.View.{first_view, second_view, view_after_join, times, times_below, spent_places};
 ghost use Rattle.ultra_board.specs.Rule.{IsWithinLimits};
 
 use crate::rule::Limits;
@@ -41,9 +41,9 @@ pub struct Board {
 }
 
 impl Model for Board {
-    ghost use Rattle.ultra_board.specs.Seat.{Opened};
+    ghost use Rattle.ultra_board.specs.Seat.{BoardState};
 
-    ghost Value = { Opened };
+    ghost Value = { BoardState };
 
     ghost view = { λ b. b.words };
 }
@@ -61,10 +61,14 @@ impl Board {
         bound: u64,
         seats: u64,
     ) -> Result<(Board, Seat), BoardFault>
-        ensures board { IfOk result (λ b. b.0.limits ≡ record { limit = limit; bound = bound; seats = seats }) }
-        ensures seat { IfOk result (λ b. (b.1.board ≡ b.0.id) × (b.1.view ≡ first_view b.0.limits)) }
-        ensures within { OnOk result (IsWithinLimits record { limit = limit; bound = bound; seats = seats }) }
-        ensures bad_limit { IsErrOf result BoardFault.BadLimit ↔ ((MOST_NUMBERS < limit) ⊎ ((bound < 1) ⊎ (MOST_PASSES < bound)) ⊎ ((seats < 1) ⊎ (MOST_SEATS < seats))) }
+        ensures board { IfOk result (λ b.
+            b.0.limits ≡ record { limit = limit; bound = bound; seats = seats }) }
+        ensures seat { IfOk result (λ b. (b.1.board ≡ b.0.id) ×
+            (b.1.view ≡ first_view b.0.limits)) }
+        ensures within { OnOk result
+            (IsWithinLimits record { limit = limit; bound = bound; seats = seats }) }
+        ensures bad_limit { IsErrOf result BoardFault.BadLimit ↔ ((MOST_NUMBERS < limit) ⊎
+            ((bound < 1) ⊎ (MOST_PASSES < bound)) ⊎ ((seats < 1) ⊎ (MOST_SEATS < seats))) }
     {
         if limit > MOST_NUMBERS || bound < 1 || bound > MOST_PASSES {
             return Err(BoardFault::BadLimit);
@@ -94,7 +98,8 @@ impl Board {
     /// A seat with one place comes back as it was, with `BadLimit`. No memory is taken.
     pub fn split(&self, seat: Seat) -> Result<(Seat, Seat), (Seat, BoardFault)>
         requires { seat.board ≡ self.now.id }
-        ensures first { IfOk result (λ s. s.0 ≡ record seat { view = record seat.view { places = seat.view.places - 1 } }) }
+        ensures first { IfOk result (λ s.
+            s.0 ≡ record seat { view = record seat.view { places = seat.view.places - 1 } }) }
         ensures second { IfOk result (λ s. s.1 ≡ record seat { view = second_view seat.view }) }
         ensures refused { IfErr result (λ e. (e.0 ≡ seat) × (e.1 ≡ BoardFault.BadLimit)) }
         ensures one_place { IsErr result ↔ (seat.view.places ≡ 1) }
@@ -133,7 +138,7 @@ impl Board {
     pub fn join(&self, seat: Seat, other: Seat) -> Seat
         requires seat { seat.board ≡ self.now.id }
         requires other { other.board ≡ self.now.id }
-        ensures joined { result ≡ record seat { view = joined_view seat.view other.view } }
+        ensures joined { result ≡ record seat { view = view_after_join seat.view other.view } }
         ensures once { (i : ℕ) → times i (seat.view.drawn ++ other.view.drawn) ≤ 1 }
     {
         let Seat {
@@ -165,14 +170,23 @@ impl Board {
     /// number was left, and from then on this seat is spent: it answers `None` without a step.
     pub fn draw(&self, seat: &mut Seat) -> Option<u64>
         requires { seat.old.board ≡ self.now.id }
-        ensures number { IfSome result (λ i. seat.new ≡ record seat.old { view = record seat.old.view { drawn = seat.old.view.drawn ++ i ∷ []; claims = seat.old.view.claims + 1 } }) }
+        ensures number { IfSome result (λ i. seat.new ≡
+            record seat.old {
+              view = record seat.old.view {
+                drawn = seat.old.view.drawn ++ i ∷ [];
+                claims = seat.old.view.claims + 1;
+              };
+            }) }
         ensures below { IfSome result (λ i. i < seat.old.view.limit) }
         ensures fresh { IfSome result (λ i. ¬ Contains seat.old.view.drawn i) }
         ensures drawn { IfSome result (λ i. Contains seat.new.view.drawn i) }
         ensures unfinished { IfSome result (λ i. ¬ Contains seat.new.view.finished i) }
         ensures unspent { OnSome result (seat.old.view.spent ≡ false) }
-        ensures none { IfNone result (seat.new ≡ record seat.old { view = record seat.old.view { spent = true; claims = seat.new.view.claims } }) }
-        ensures asked { IfNone result (seat.old.view.spent ≡ false → seat.new.view.claims ≡ seat.old.view.claims + 1) }
+        ensures none { IfNone result (seat.new ≡ record seat.old {
+          view = record seat.old.view { spent = true; claims = seat.new.view.claims };
+        }) }
+        ensures asked { IfNone result (seat.old.view.spent ≡ false →
+            seat.new.view.claims ≡ seat.old.view.claims + 1) }
         ensures no_step { seat.old.view.spent ≡ true → seat.new ≡ seat.old }
     {
         if seat.spent {
@@ -193,7 +207,12 @@ impl Board {
         requires board { seat.old.board ≡ self.now.id }
         requires drawn { Contains seat.old.view.drawn number }
         requires unfinished { ¬ Contains seat.old.view.finished number }
-        ensures finished { seat.new ≡ record seat.old { view = record seat.old.view { finished = seat.old.view.finished ++ number ∷ []; seen = seat.new.view.seen } } }
+        ensures finished { seat.new ≡ record seat.old {
+          view = record seat.old.view {
+            finished = seat.old.view.finished ++ number ∷ [];
+            seen = seat.new.view.seen;
+          };
+        } }
         ensures counted { seat.old.view.seen < seat.new.view.seen }
         ensures own { length seat.new.view.finished ≤ seat.new.view.seen }
     {
@@ -204,7 +223,9 @@ impl Board {
     /// than this seat found before, and no fewer than it finished itself.
     pub fn progress(&self, seat: &mut Seat) -> u64
         requires { seat.old.board ≡ self.now.id }
-        ensures seen { seat.new ≡ record seat.old { view = record seat.old.view { seen = result; reads = seat.old.view.reads + 1 } } }
+        ensures seen { seat.new ≡ record seat.old {
+          view = record seat.old.view { seen = result; reads = seat.old.view.reads + 1 };
+        } }
         ensures later { seat.old.view.seen ≤ result }
         ensures own { length seat.old.view.finished ≤ result }
     {
@@ -219,8 +240,22 @@ impl Board {
     pub fn try_enter(&self, seat: &mut Seat) -> bool
         requires board { seat.old.board ≡ self.now.id }
         requires no_pass { seat.old.view.held ≡ 0 }
-        ensures entered { OnTrue result (seat.new ≡ record seat.old { view = record seat.old.view { held = seat.old.view.held + 1; loads = seat.old.view.loads + 1; adds = seat.old.view.adds + 1 } }) }
-        ensures refused { OnFalse result (seat.new ≡ record seat.old { view = record seat.old.view { full = seat.old.view.full + 1; loads = seat.old.view.loads + 1; adds = seat.new.view.adds } }) }
+        ensures entered { OnTrue result (seat.new ≡
+            record seat.old {
+              view = record seat.old.view {
+                held = seat.old.view.held + 1;
+                loads = seat.old.view.loads + 1;
+                adds = seat.old.view.adds + 1;
+              };
+            }) }
+        ensures refused { OnFalse result (seat.new ≡
+            record seat.old {
+              view = record seat.old.view {
+                full = seat.old.view.full + 1;
+                loads = seat.old.view.loads + 1;
+                adds = seat.new.view.adds;
+              };
+            }) }
         ensures one_add { seat.new.view.adds ≤ seat.old.view.adds + 1 }
     {
         if self.words.load_passes(&mut seat.token) >= seat.bound {
@@ -237,7 +272,8 @@ impl Board {
     pub fn leave(&self, seat: &mut Seat)
         requires board { seat.old.board ≡ self.now.id }
         requires pass { 0 < seat.old.view.held }
-        ensures { seat.new ≡ record seat.old { view = record seat.old.view { held = seat.old.view.held - 1 } } }
+        ensures { seat.new ≡
+            record seat.old { view = record seat.old.view { held = seat.old.view.held - 1 } } }
     {
         self.words.subtract_from_passes(&mut seat.token)
     }
@@ -250,7 +286,8 @@ impl Board {
         ensures claimed { min result.claimed seat.view.limit ≡ length seat.view.drawn }
         ensures spent { seat.view.spent ≡ true → seat.view.limit ≤ result.claimed }
         ensures most_claimed { result.claimed ≤ seat.view.limit + spent_places seat.view }
-        ensures each_once { (i : ℕ) → times i seat.view.drawn ≡ times_below i (length seat.view.drawn) }
+        ensures each_once { (i : ℕ) →
+            times i seat.view.drawn ≡ times_below i (length seat.view.drawn) }
         ensures finished { result.finished ≡ length seat.view.finished }
         ensures finished_once { (i : ℕ) → times i seat.view.finished ≤ times i seat.view.drawn }
         ensures passes { result.passes ≡ seat.view.held }

@@ -19,9 +19,9 @@ pub struct Seat {
 }
 
 impl Model for Seat {
-    ghost use Rattle.ultra_board.specs.Seat.{Seated, IsSeat};
+    ghost use Rattle.ultra_board.specs.Seat.{SeatState, IsSeat};
 
-    ghost Value = { Seated };
+    ghost Value = { SeatState };
 
     ghost view = { λ s. record { board = s.token.table_id; view = s.token.me.0 } };
 

@@ -47,13 +47,14 @@ pub(crate) struct BoardWords {
 
 impl Model for BoardWords {
     ghost use Rattle.std.specs.Prelude.{◌≡◌};
-    ghost use Rattle.ultra_board.specs.Seat.{Opened};
+    ghost use Rattle.ultra_board.specs.Seat.{BoardState};
 
-    ghost Value = { Opened };
+    ghost Value = { BoardState };
 
     ghost view = { λ w. record { id = w.table.shared.table_id; limits = w.table.shared.key } };
 
-    ghost invariant = { λ w. (w.table.shared.table_id.words ≡ 3) × (w.table.shared.table_id.slots ≡ 0) };
+    ghost invariant = { λ w. (w.table.shared.table_id.words ≡ 3) ×
+        (w.table.shared.table_id.slots ≡ 0) };
 }
 
 impl BoardWords {
@@ -61,7 +62,8 @@ impl BoardWords {
     pub(crate) fn open(alloc: Global, limits: &Limits) -> Result<(BoardWords, Token), AllocError>
         requires { IsWithinLimits limits.now }
         ensures words { IfOk result (λ w. w.0.limits ≡ limits.now) }
-        ensures token { IfOk result (λ w. (w.1.table_id ≡ w.0.id) × (w.1.me ≡ (first_view limits.now, []))) }
+        ensures token { IfOk result (λ w. (w.1.table_id ≡ w.0.id) ×
+            (w.1.me ≡ (first_view limits.now, []))) }
     {
         let (table, token) = Table::of_words(alloc, &[0, 0, 0], limits)?;
         Ok((BoardWords { table }, token))
@@ -72,7 +74,8 @@ impl BoardWords {
         requires board { token.old.table_id ≡ self.now.id }
         requires place { 1 ≤ token.old.me.0.places }
         requires unspent { token.old.me.0.spent ≡ false }
-        ensures token { (token.new.table_id ≡ token.old.table_id) × (token.new.me.1 ≡ token.old.me.1) }
+        ensures token { (token.new.table_id ≡ token.old.table_id) ×
+            (token.new.me.1 ≡ token.old.me.1) }
         ensures step { AddsToClaim token.old.me.0 result token.new.me.0 }
     {
         self.table.shared.fetch_add::<AddToClaim>(token, CLAIM, 1)
@@ -85,7 +88,8 @@ impl BoardWords {
         requires drawn { Contains token.old.me.0.drawn number }
         requires unfinished { ¬ Contains token.old.me.0.finished number }
         requires picked { number ≡ N.number }
-        ensures token { (token.new.table_id ≡ token.old.table_id) × (token.new.me.1 ≡ token.old.me.1) }
+        ensures token { (token.new.table_id ≡ token.old.table_id) ×
+            (token.new.me.1 ≡ token.old.me.1) }
         ensures step { AddsToDone number token.old.me.0 result token.new.me.0 }
     {
         let _ = number;
@@ -95,7 +99,8 @@ impl BoardWords {
     /// Loads done.
     pub(crate) fn load_done(&self, token: &mut Token) -> u64
         requires { token.old.table_id ≡ self.now.id }
-        ensures token { (token.new.table_id ≡ token.old.table_id) × (token.new.me.1 ≡ token.old.me.1) }
+        ensures token { (token.new.table_id ≡ token.old.table_id) ×
+            (token.new.me.1 ≡ token.old.me.1) }
         ensures step { LoadsDone token.old.me.0 result token.new.me.0 }
     {
         self.table.shared.load::<LoadOfDone>(token, DONE)
@@ -106,7 +111,8 @@ impl BoardWords {
         requires board { token.old.table_id ≡ self.now.id }
         requires place { 1 ≤ token.old.me.0.places }
         requires no_try { token.old.me.0.tries ≡ 0 }
-        ensures token { (token.new.table_id ≡ token.old.table_id) × (token.new.me.1 ≡ token.old.me.1) }
+        ensures token { (token.new.table_id ≡ token.old.table_id) ×
+            (token.new.me.1 ≡ token.old.me.1) }
         ensures step { LoadsPasses token.old.me.0 result token.new.me.0 }
     {
         self.table.shared.load::<LoadOfPasses>(token, PASSES)
@@ -117,7 +123,8 @@ impl BoardWords {
         requires board { token.old.table_id ≡ self.now.id }
         requires place { 1 ≤ token.old.me.0.places }
         requires no_try { token.old.me.0.tries ≡ 0 }
-        ensures token { (token.new.table_id ≡ token.old.table_id) × (token.new.me.1 ≡ token.old.me.1) }
+        ensures token { (token.new.table_id ≡ token.old.table_id) ×
+            (token.new.me.1 ≡ token.old.me.1) }
         ensures step { AddsToPasses token.old.me.0 result token.new.me.0 }
     {
         self.table.shared.fetch_add::<AddToPasses>(token, PASSES, 1)
@@ -129,7 +136,8 @@ impl BoardWords {
         requires place { 1 ≤ token.old.me.0.places }
         requires some { 0 < token.old.me.0.held + token.old.me.0.tries }
         requires one_try { token.old.me.0.tries ≤ 1 }
-        ensures token { (token.new.table_id ≡ token.old.table_id) × (token.new.me.1 ≡ token.old.me.1) }
+        ensures token { (token.new.table_id ≡ token.old.table_id) ×
+            (token.new.me.1 ≡ token.old.me.1) }
         ensures step { SubtractsFromPasses token.old.me.0 token.new.me.0 }
     {
         self.table
@@ -140,7 +148,8 @@ impl BoardWords {
     /// Loads claim, and looks at no value.
     pub(crate) fn load_claim(&self, token: &mut Token)
         requires { token.old.table_id ≡ self.now.id }
-        ensures token { (token.new.table_id ≡ token.old.table_id) × (token.new.me.1 ≡ token.old.me.1) }
+        ensures token { (token.new.table_id ≡ token.old.table_id) ×
+            (token.new.me.1 ≡ token.old.me.1) }
         ensures step { LoadsClaim token.old.me.0 token.new.me.0 }
     {
         self.table.shared.load::<LoadOfClaim>(token, CLAIM);
@@ -151,8 +160,10 @@ impl BoardWords {
         requires board { token.old.table_id ≡ self.now.id }
         requires places { 2 ≤ token.old.me.0.places }
         requires no_try { token.old.me.0.tries ≡ 0 }
-        ensures board { (token.new.table_id ≡ token.old.table_id) × (result.table_id ≡ token.old.table_id) }
-        ensures first { token.new.me ≡ (record token.old.me.0 { places = token.old.me.0.places - 1 }, token.old.me.1) }
+        ensures board { (token.new.table_id ≡ token.old.table_id) ×
+            (result.table_id ≡ token.old.table_id) }
+        ensures first { token.new.me ≡
+            (record token.old.me.0 { places = token.old.me.0.places - 1 }, token.old.me.1) }
         ensures second { result.me ≡ (second_view token.old.me.0, []) }
     {
         self.table.shared.split_seat::<OnePlace>(token)

@@ -20,7 +20,7 @@ use Rattle.ultra_isa.specs.declared.Instr.TheVariants.{Set, Add, AddWord, Subtra
 use Rattle.ultra_isa.specs.declared.Activity.{Activity}
 use Rattle.ultra_isa.specs.declared.Activity.TheVariants as activity
 use Rattle.ultra_isa.specs.Instruction.{minus}
-use Rattle.ultra_isa.specs.Step.{Core, fresh_core, Stepped, refers_where, runs, runs_as, received}
+use Rattle.ultra_isa.specs.Step.{Core, fresh_core, StepResult, refers_where, runs, runs_as, received}
 use Rattle.ultra_model.specs.Machine.{Settings, size, site, given_value}
 use Rattle.ultra_model.specs.Ranges.{AreInRange}
 use Rattle.ultra_model.proofs.Each.{places_at, length-places}
@@ -234,7 +234,7 @@ module _ (c : Settings) (Φ : Type 0) (out : Φ) (Local : ℕ → ℕ → List �
     -- the processing element's registers, place and state
     module _ (core : Core) (stands : Stands p core φ) where
       -- what its step leads to
-      abbrev After : Stepped → Type 0
+      abbrev After : StepResult → Type 0
       After t = With (after_alone c [] s p t).cells (core_answered s.cells t t.sent)
 
       setting : (d v : ℕ) → Local p (core.pc + 1) (slice_set core.registers d v) φ → With s.cells record core { registers = slice_set core.registers d v; pc = core.pc + 1 }

@@ -52,10 +52,11 @@ fn run(
 }
 
 /// The gate on a paracomputer with these settings, all of whose cells are 0 at first, after a
-/// schedule: each number is the processing element that makes the step.
+/// schedule. Each of its numbers is the processing element that makes the step, and has to be below
+/// the number of processing elements.
 ///
 /// At most `bound` processing elements are inside. `BadParameter` means that a parameter is out of
-/// its range or that cells have initial values.
+/// its range or that cells have initial values, `NoMemory` that memory was refused.
 pub fn run_gate(
     alloc: Global,
     config: &Config,
@@ -64,18 +65,25 @@ pub fn run_gate(
     schedule: &[Pe],
 ) -> Result<Para, ColibFault>
     requires { All (λ p. p < size config.now) schedule.now }
-    ensures state { IfOk result (λ m. m ≡ record { settings = config.now; program = gate bound rounds; state = run_para config.now (gate bound rounds) (start_para config.now) schedule.now }) }
-    ensures law { IfOk result (λ m. AreFewInside bound (size config.now) (slice_index m.state.cells)) }
-    ensures parameters { (result ≡ Err ColibFault.BadParameter) ↔ ((is_empty config.now.initial && gate_takes bound rounds) ≡ false) }
+    ensures state { IfOk result (λ m. m ≡ record {
+      settings = config.now;
+      program = gate bound rounds;
+      state = run_para config.now (gate bound rounds) (start_para config.now) schedule.now;
+    }) }
+    ensures law { IfOk result (λ m.
+        AreFewInside bound (size config.now) (slice_index m.state.cells)) }
+    ensures parameters { (result ≡ Err ColibFault.BadParameter) ↔
+        ((is_empty config.now.initial && gate_takes bound rounds) ≡ false) }
 {
     run(alloc, config, gate_program(alloc, bound, rounds), schedule)
 }
 
-/// The readers and writers on a paracomputer with these settings, after a schedule. All cells are 0
-/// at first. Each number of the schedule is the processing element that makes the step.
+/// The readers and writers on a paracomputer with these settings, all of whose cells are 0 at
+/// first, after a schedule. Each of its numbers is the processing element that makes the step, and
+/// has to be below the number of processing elements.
 ///
 /// Where a writer is inside, nobody else is. `BadParameter` means that a parameter is out of its
-/// range or that cells have initial values.
+/// range or that cells have initial values, `NoMemory` that memory was refused.
 pub fn run_rw(
     alloc: Global,
     config: &Config,
@@ -84,18 +92,25 @@ pub fn run_rw(
     schedule: &[Pe],
 ) -> Result<Para, ColibFault>
     requires { All (λ p. p < size config.now) schedule.now }
-    ensures state { IfOk result (λ m. m ≡ record { settings = config.now; program = readers_writers writers rounds; state = run_para config.now (readers_writers writers rounds) (start_para config.now) schedule.now }) }
+    ensures state { IfOk result (λ m. m ≡ record {
+      settings = config.now;
+      program = readers_writers writers rounds;
+      state = run_para config.now
+          (readers_writers writers rounds) (start_para config.now) schedule.now;
+    }) }
     ensures law { IfOk result (λ m. AreWritersAlone (size config.now) (slice_index m.state.cells)) }
-    ensures parameters { (result ≡ Err ColibFault.BadParameter) ↔ ((is_empty config.now.initial && rw_takes writers rounds) ≡ false) }
+    ensures parameters { (result ≡ Err ColibFault.BadParameter) ↔
+        ((is_empty config.now.initial && rw_takes writers rounds) ≡ false) }
 {
     run(alloc, config, rw_program(alloc, writers, rounds), schedule)
 }
 
 /// The barrier on a paracomputer with these settings, all of whose cells are 0 at first, after a
-/// schedule: each number is the processing element that makes the step.
+/// schedule. Each of its numbers is the processing element that makes the step, and has to be below
+/// the number of processing elements.
 ///
 /// Nobody has finished more rounds than anybody has begun. `BadParameter` means that the rounds are
-/// out of their range or that cells have initial values.
+/// out of their range or that cells have initial values, `NoMemory` that memory was refused.
 pub fn run_barrier(
     alloc: Global,
     config: &Config,
@@ -103,18 +118,25 @@ pub fn run_barrier(
     schedule: &[Pe],
 ) -> Result<Para, ColibFault>
     requires { All (λ p. p < size config.now) schedule.now }
-    ensures state { IfOk result (λ m. m ≡ record { settings = config.now; program = barrier rounds; state = run_para config.now (barrier rounds) (start_para config.now) schedule.now }) }
+    ensures state { IfOk result (λ m. m ≡ record {
+      settings = config.now;
+      program = barrier rounds;
+      state = run_para config.now (barrier rounds) (start_para config.now) schedule.now;
+    }) }
     ensures law { IfOk result (λ m. AreInStep (size config.now) (slice_index m.state.cells)) }
-    ensures parameters { (result ≡ Err ColibFault.BadParameter) ↔ ((is_empty config.now.initial && barrier_takes rounds) ≡ false) }
+    ensures parameters { (result ≡ Err ColibFault.BadParameter) ↔
+        ((is_empty config.now.initial && barrier_takes rounds) ≡ false) }
 {
     run(alloc, config, barrier_program(alloc, rounds), schedule)
 }
 
-/// The queue with `2^log_size` places on a paracomputer with these settings, after a schedule. All
-/// cells are 0 at first. Each number of the schedule is the processing element that makes the step.
+/// The queue with `2^log_size` places on a paracomputer with these settings, all of whose cells are
+/// 0 at first, after a schedule. Each of its numbers is the processing element that makes the step,
+/// and has to be below the number of processing elements.
 ///
 /// The results that aren't 0 are pairwise different inserted values, each with its own ticket.
-/// `BadParameter` means that a parameter is out of its range or that cells have initial values.
+/// `BadParameter` means that a parameter is out of its range or that cells have initial values,
+/// `NoMemory` that memory was refused.
 pub fn run_queue(
     alloc: Global,
     config: &Config,
@@ -123,9 +145,17 @@ pub fn run_queue(
     schedule: &[Pe],
 ) -> Result<Para, ColibFault>
     requires { All (λ p. p < size config.now) schedule.now }
-    ensures state { IfOk result (λ m. m ≡ record { settings = config.now; program = queue log_size rounds; state = run_para config.now (queue log_size rounds) (start_para config.now) schedule.now }) }
-    ensures law { IfOk result (λ m. AreItemsOnce log_size rounds (size config.now) (slice_index m.state.cells)) }
-    ensures parameters { (result ≡ Err ColibFault.BadParameter) ↔ ((is_empty config.now.initial && queue_takes log_size rounds) ≡ false) }
+    ensures state { IfOk result (λ m. m ≡
+        record {
+          settings = config.now;
+          program = queue log_size rounds;
+          state = run_para config.now
+              (queue log_size rounds) (start_para config.now) schedule.now;
+        }) }
+    ensures law { IfOk result (λ m.
+        AreItemsOnce log_size rounds (size config.now) (slice_index m.state.cells)) }
+    ensures parameters { (result ≡ Err ColibFault.BadParameter) ↔
+        ((is_empty config.now.initial && queue_takes log_size rounds) ≡ false) }
 {
     run(
         alloc,

@@ -147,7 +147,7 @@ fn places_of(log_size: u32) -> u32
 }
 
 /// The text of the queue, with these numbers in it.
-fn queue_filled(
+fn queue_text_with(
     alloc: Global,
     log_size: u32,
     rounds: u32,
@@ -156,7 +156,8 @@ fn queue_filled(
     items: u32,
     results: u32,
 ) -> Result<String, AllocError>
-    ensures { IfOk result (λ text. string_bytes text ≡ text_of_lines (queue_lines log_size rounds places last items results)) }
+    ensures { IfOk result (λ text.
+        string_bytes text ≡ text_of_lines (queue_lines log_size rounds places last items results)) }
 {
     format!(in alloc;
         "\
@@ -259,7 +260,7 @@ pub(crate) fn queue_text(alloc: Global, log_size: u32, rounds: u32) -> Result<St
     ensures { IfOk result (λ text. string_bytes text ≡ queue_text log_size rounds) }
 {
     let places = places_of(log_size);
-    queue_filled(
+    queue_text_with(
         alloc,
         log_size,
         rounds,

@@ -15,8 +15,8 @@ use Rattle.ultra_trace_alone.specs.declared.part.TracePart.{TracePart}
 use Rattle.ultra_trace_alone.specs.Part.{part_of}
 use Rattle.ultra_verdict.specs.declared.VerdictFault.{VerdictFault}
 use Rattle.ultra_verdict.specs.declared.VerdictFault.TheVariants as verdict
-use Rattle.ultra_args.specs.declared.ScheduleOf.{ScheduleOf}
-use Rattle.ultra_args.specs.declared.ScheduleOf.TheVariants.{File, Seed}
+use Rattle.ultra_args.specs.declared.ScheduleSource.{ScheduleSource}
+use Rattle.ultra_args.specs.declared.ScheduleSource.TheVariants.{File, Seed}
 use Rattle.ultra_commands.specs.Check as check
 use Rattle.ultra_commands.specs.Check.{CheckFails, failure_of_verdict}
 use Rattle.ultra_commands.specs.Paracomputer as para
@@ -66,7 +66,7 @@ check_refused conf prog list old new f (check.refused gave same) r = same
 check_refused conf prog list old new f (check.not_legal c p l gave why written) r = absurd (ended_by f NotLegal why not_one r)
 check_refused conf prog list old new f (check.stopped c p l gave v why cut) r = absurd (ended_by f (failure_of_verdict v) why (verdict_stops v) r)
 
-pub para_refused : (schedule : ScheduleOf) (only_end : Bool) (conf prog : List ℕ) (old new : Traffic) (f : Failure) → ParaFails schedule only_end conf prog old new f → IsRefusal (status_of f) → new.written ≡ old.written
+pub para_refused : (schedule : ScheduleSource) (only_end : Bool) (conf prog : List ℕ) (old new : Traffic) (f : Failure) → ParaFails schedule only_end conf prog old new f → IsRefusal (status_of f) → new.written ≡ old.written
 para_refused (File path) only_end conf prog old new f (para.refused gave same) r = same
 para_refused (File path) only_end conf prog old new f (para.stopped c p s gave stops begun) r = absurd (is_stopped f stops r)
 para_refused (Seed seed steps) only_end conf prog old new f why r = stopped_refused conf prog old new f (seeded_text seed steps only_end) why r

@@ -7,10 +7,10 @@ use Rattle.ultra_msg.proofs.Prefixes.{prefix_behind, takes_all, takes_behind, ta
 use Rattle.ultra_msg.specs.declared.Event.{Event}
 use Rattle.ultra_serial_law.specs.Tree.{Kept, trees_after}
 use Rattle.ultra_serial_law.specs.Explicable.{AreAbsorbable, IsAbsorbable}
-use Rattle.ultra_tree.specs.Absorb.{Explained}
+use Rattle.ultra_tree.specs.Absorb.{ExplainerState}
 use Rattle.ultra_inputs.specs.declared.failure.Failure.{Failure}
 use Rattle.ultra_inputs.specs.declared.failure.Failure.TheVariants.{HeapFull}
-use Rattle.ultra_commands.specs.Explanation.{event_line, event_lines, trees_after_all, StopsAtCombination}
+use Rattle.ultra_commands.specs.Explanation.{tree_event_line, event_lines, trees_after_all, StopsAtCombination}
 
 -- ---- what was put, whether all of it or not
 pub put_part : {T E : Type 0} (r : Result T E) {bytes old new : List ℕ} → OnOk r (new ≡ old ++ bytes) → OnErr r (TakesPrefix bytes old new) → TakesPrefix bytes old new
@@ -23,17 +23,17 @@ at_success (Ok x) p f = f p
 at_success (Err e) p f = tt
 
 -- what was put behind the bytes that waited, and then taken or a prefix of it
-pub handed_on : {bytes waited waits before after : List ℕ} → TakesPrefix bytes waited waits → TakesPrefix waits before after → TakesPrefix (waited ++ bytes) before after
-handed_on {bytes = bytes} {waited = waited} put t =
+pub passed_on : {bytes waited waits before after : List ℕ} → TakesPrefix bytes waited waits → TakesPrefix waits before after → TakesPrefix (waited ++ bytes) before after
+passed_on {bytes = bytes} {waited = waited} put t =
     takes_longer (subst (λ x. IsPrefix x (waited ++ bytes)) (sym put.taken) (prefix_behind waited put.part bytes put.begins)) t
 
 -- ---- one event more
-lines_more : (c : ℕ) (ks : List Kept) (es : List Event) (e : Event) → event_lines c ks (es ++ e ∷ []) ≡ event_lines c ks es ++ event_line c (trees_after_all ks es) e
-lines_more c ks [] e = append-nil (event_line c ks e)
+lines_more : (c : ℕ) (ks : List Kept) (es : List Event) (e : Event) → event_lines c ks (es ++ e ∷ []) ≡ event_lines c ks es ++ tree_event_line c (trees_after_all ks es) e
+lines_more c ks [] e = append-nil (tree_event_line c ks e)
 lines_more c ks (d ∷ es) e =
-    let first = event_line c ks d in
+    let first = tree_event_line c ks d in
     let us = trees_after ks d in
-    ap (λ t. first ++ t) (lines_more c us es e) ∙ sym (append_assoc first (event_lines c us es) (event_line c (trees_after_all us es) e))
+    ap (λ t. first ++ t) (lines_more c us es e) ∙ sym (append_assoc first (event_lines c us es) (tree_event_line c (trees_after_all us es) e))
 
 trees_more : (ks : List Kept) (es : List Event) (e : Event) → trees_after_all ks (es ++ e ∷ []) ≡ trees_after (trees_after_all ks es) e
 trees_more ks [] e = refl
@@ -47,32 +47,32 @@ first_begin : (c : ℕ) (ks : List Kept) (es : List Event) (k : ℕ) → IsPrefi
 first_begin c ks es zero = (event_lines c ks es, refl)
 first_begin c ks [] (suc k) = ([], refl)
 first_begin c ks (e ∷ es) (suc k) =
-    let first = event_line c ks e in
+    let first = tree_event_line c ks e in
     let p = first_begin c (trees_after ks e) es k in
     (p.0, append_assoc first (event_lines c (trees_after ks e) (take k es)) p.0 ∙ ap (λ t. first ++ t) p.1)
 
 module _ (c : ℕ) (ks : List Kept) (es : List Event) (k : ℕ) (d : Event) (here : k < length es) where
-  lines_next : event_lines c ks (take (k + 1) es) ≡ event_lines c ks (take k es) ++ event_line c (trees_after_all ks (take k es)) (get_or es k d)
+  lines_next : event_lines c ks (take (k + 1) es) ≡ event_lines c ks (take k es) ++ tree_event_line c (trees_after_all ks (take k es)) (get_or es k d)
   lines_next = ap (λ us. event_lines c ks us) (take_more es k d here) ∙ lines_more c ks (take k es) (get_or es k d)
 
   -- with these lines and trees, and one line more
   module _ (us : List Kept) (old text : List ℕ) (trees : us ≡ trees_after_all ks (take k es)) (put : text ≡ old ++ event_lines c ks (take k es)) where
-    with_line : text ++ event_line c us (get_or es k d) ≡ old ++ event_lines c ks (take (k + 1) es)
-    with_line = rw (trees, put, lines_next) (append_assoc old (event_lines c ks (take k es)) (event_line c (trees_after_all ks (take k es)) (get_or es k d)))
+    with_line : text ++ tree_event_line c us (get_or es k d) ≡ old ++ event_lines c ks (take (k + 1) es)
+    with_line = rw (trees, put, lines_next) (append_assoc old (event_lines c ks (take k es)) (tree_event_line c (trees_after_all ks (take k es)) (get_or es k d)))
 
-    pub put_next : (new : List ℕ) → new ≡ text ++ event_line c us (get_or es k d) → new ≡ old ++ event_lines c ks (take (k + 1) es)
+    pub put_next : (new : List ℕ) → new ≡ text ++ tree_event_line c us (get_or es k d) → new ≡ old ++ event_lines c ks (take (k + 1) es)
     put_next new e = e ∙ with_line
 
-    pub begun_there : (new : List ℕ) → TakesPrefix (event_line c us (get_or es k d)) text new → TakesPrefix (event_lines c ks es) old new
+    pub begun_there : (new : List ℕ) → TakesPrefix (tree_event_line c us (get_or es k d)) text new → TakesPrefix (event_lines c ks es) old new
     begun_there new b =
         takes_longer (first_begin c ks es (k + 1))
         (subst (λ t. TakesPrefix t old new) (sym lines_next)
-        (subst (λ vs. TakesPrefix (event_lines c ks (take k es) ++ event_line c vs (get_or es k d)) old new) trees (takes_behind (event_lines c ks (take k es)) put b)))
+        (subst (λ vs. TakesPrefix (event_lines c ks (take k es) ++ tree_event_line c vs (get_or es k d)) old new) trees (takes_behind (event_lines c ks (take k es)) put b)))
 
-pub absorbed_next : (old e u : Explained) (es : List Event) (k : ℕ) (d : Event) → k < length es → e ≡ record old { trees = trees_after_all old.trees (take k es) } → u ≡ record e { trees = trees_after e.trees (get_or es k d) } → u ≡ record old { trees = trees_after_all old.trees (take (k + 1) es) }
+pub absorbed_next : (old e u : ExplainerState) (es : List Event) (k : ℕ) (d : Event) → k < length es → e ≡ record old { trees = trees_after_all old.trees (take k es) } → u ≡ record e { trees = trees_after e.trees (get_or es k d) } → u ≡ record old { trees = trees_after_all old.trees (take (k + 1) es) }
 absorbed_next old e u es k d here same next =
     next
-    ∙ (ap (λ (x : Explained). record x { trees = trees_after x.trees (get_or es k d) }) same
+    ∙ (ap (λ (x : ExplainerState). record x { trees = trees_after x.trees (get_or es k d) }) same
     ∙ ap (λ us. record old { trees = us }) (sym (trees_next old.trees es k d here)))
 
 -- the first of the events that are left can come, and the others after it

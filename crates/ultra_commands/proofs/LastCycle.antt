@@ -31,8 +31,8 @@ module _ (c : Settings) (program : List Instr) where
   unfolding cycle_count
   count_ends = first_in (λ n. is_quiet (after c program n)) 1 c.cycles c.cycles
 
-  pub whole_list : serial_list c program (cycle_count c program) ≡ serial_list c program c.cycles
-  whole_list =
+  pub list_of_all_cycles : serial_list c program (cycle_count c program) ≡ serial_list c program c.cycles
+  list_of_all_cycles =
       ⊎_elim (λ e. ap (λ n. serial_list c program n) e)
       (λ h. quiet_list c program (cycle_count c program) c.cycles (omega (arith, h.0)) h.1) count_ends
 

@@ -2,7 +2,7 @@
 use Rattle.std.proofs.Common.{◌≡◌, ◌∙◌, ℕ, zero, suc, ◌+◌, ◌<◌, ◌≤◌, List, [], ◌∷◌, ◌++◌, true, false, refl, sym, ap, subst, arith, add-one, append_assoc, append-nil, ⊎_elim, length}
 use Rattle.std.proofs.lemmas.Bool.{cases_eq}
 use Rattle.ultra_msg.specs.Bytes.{AreTakenOrWait, IsPrefix, TakesPrefix}
-use Rattle.ultra_msg.proofs.Prefixes.{both_written, prefix_behind, rest_handed_on, takes_later, takes_longer}
+use Rattle.ultra_msg.proofs.Prefixes.{both_written, prefix_behind, rest_passed_on, takes_later, takes_longer}
 use Rattle.ultra_msg.specs.declared.Event.{Event}
 use Rattle.ultra_isa.specs.declared.Instr.{Instr}
 use Rattle.ultra_model.specs.Machine.{Settings, fresh_element, size, start, is_quiet}
@@ -14,7 +14,7 @@ use Rattle.ultra_serial.proofs.Cycles.{history_next}
 use Rattle.ultra_serial_law.proofs.Mentions.{trees_noted, noted_trees}
 use Rattle.ultra_serial_law.specs.Explicable.{AreAbsorbable, AreExplicable}
 use Rattle.ultra_serial_law.proofs.Rest.{IsAtRest, rest_if_quiet, rest_cycle, nothing_happens}
-use Rattle.ultra_tree.specs.Absorb.{Explained}
+use Rattle.ultra_tree.specs.Absorb.{ExplainerState}
 use Rattle.ultra_commands.specs.Explanation.{event_lines, trees_after_all, lines_of_first, StopsAtCombination, StopsFull, in_cycle}
 
 noted_all : (es : List Event) (ks : List Kept) → trees_noted es ks ≡ trees_after_all ks es
@@ -68,17 +68,17 @@ module _ (c : Settings) (program : List Instr) where
   quiet_lines n m l q = (rest_later n m l (rest_if_quiet c (after c program n) (all_elements n) q)).1
 
   -- ---- the explainer that has absorbed the first cycles
-  abbrev pub explained : ℕ → Explained
+  abbrev pub explained : ℕ → ExplainerState
   explained n = record { elements = size c; most_open = c.most_open; is_spent = false; trees = (history c program n).trees }
 
-  module _ (n : ℕ) (es : List Event) (here : es ≡ (after c program (n + 1)).events) (e : Explained) (now_is : e ≡ explained n) where
+  module _ (n : ℕ) (es : List Event) (here : es ≡ (after c program (n + 1)).events) (e : ExplainerState) (now_is : e ≡ explained n) where
     pub can_come : AreExplicable c program → AreAbsorbable e.elements e.most_open e.trees es
     can_come law = rw (now_is, here) (law.absorbable n)
 
-    pub explained_next : (u : Explained) → u ≡ record e { trees = trees_after_all e.trees es } → u ≡ explained (n + 1)
+    pub explained_next : (u : ExplainerState) → u ≡ record e { trees = trees_after_all e.trees es } → u ≡ explained (n + 1)
     explained_next u d =
         d
-        ∙ (ap (λ (x : Explained). record x { trees = trees_after_all x.trees es }) now_is
+        ∙ (ap (λ (x : ExplainerState). record x { trees = trees_after_all x.trees es }) now_is
         ∙ ap (λ (ks : List Kept). record (explained n) { trees = ks }) (sym (trees_next n es here)))
 
     lines_with : lines_of_first c program n ++ event_lines n e.trees es ≡ lines_of_first c program (n + 1)
@@ -97,5 +97,5 @@ module _ (c : Settings) (program : List Instr) where
       pub full_there : (new : List ℕ) → n < c.cycles → StopsAtCombination n e.trees es (now ++ waits) new → StopsFull c program (old ++ waited) new
       full_there new h s =
           let all : now ++ waits ≡ (old ++ waited) ++ lines_of_first c program n =
-          rest_handed_on so_far refl ∙ sym (append_assoc old waited (lines_of_first c program n)) in
+          rest_passed_on so_far refl ∙ sym (append_assoc old waited (lines_of_first c program n)) in
           in_cycle n h (rw (now_is, here, all) at s)

@@ -27,16 +27,16 @@ tree_line_of c k a None = []
 tree_line_of c k a (Some t) = tree_line c k a t
 
 -- the line of an event of a cycle, over the trees before it: of all events an act alone has one
-abbrev pub event_line : ℕ → List Kept → Event → List ℕ
-event_line c ks (Delivered r) = []
-event_line c ks (Served k r reply now) = tree_line_of c k r.cell (tree_of r.pe r.cell ks)
-event_line c ks (Combined s x a p q f) = []
-event_line c ks (Issued r n) = []
+abbrev pub tree_event_line : ℕ → List Kept → Event → List ℕ
+tree_event_line c ks (Delivered r) = []
+tree_event_line c ks (Served k r reply now) = tree_line_of c k r.cell (tree_of r.pe r.cell ks)
+tree_event_line c ks (Combined s x a p q f) = []
+tree_event_line c ks (Issued r n) = []
 
 -- the lines of several events of a cycle, in order, and the trees after them
 abbrev pub event_lines : ℕ → List Kept → List Event → List ℕ
 event_lines c ks [] = []
-event_lines c ks (e ∷ es) = event_line c ks e ++ event_lines c (trees_after ks e) es
+event_lines c ks (e ∷ es) = tree_event_line c ks e ++ event_lines c (trees_after ks e) es
 
 abbrev pub trees_after_all : List Kept → List Event → List Kept
 trees_after_all ks [] = ks

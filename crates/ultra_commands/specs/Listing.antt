@@ -21,8 +21,8 @@ pub record WroteListing (prog : List ℕ) (careful : Bool) (old new : Traffic) :
   pub written : new.written ≡ old.written ++ listing_text program
   pub judged : careful ≡ true → is_careful program ≡ true
 
--- how a listing fails: its file is accepted before a byte is written, and the program is judged once
--- the whole text is written
+-- how a listing fails: its file is accepted before a byte is written, and the program is judged
+-- once the whole text is written
 pub data ListFails (prog : List ℕ) (careful : Bool) (old new : Traffic) (f : Failure) : Type 0 where
   unread_text : IsUnread prog f → new ≡ old → ListFails prog careful old new f
   refused_text : (text : List ℕ) → ExplainsProgram prog text f

@@ -8,8 +8,8 @@ use Rattle.ultra_para_run.specs.ParaText.{para_text}
 use Rattle.ultra_para_run.specs.ScheduleFaults.{ExplainsScheduleFault}
 use Rattle.ultra_para_run.specs.ScheduleText.{IsScheduleText}
 use Rattle.ultra_para_run.specs.SeededSchedule.{most_steps, seeded_schedule}
-use Rattle.ultra_args.specs.declared.ScheduleOf.{ScheduleOf}
-use Rattle.ultra_args.specs.declared.ScheduleOf.TheVariants.{File, Seed}
+use Rattle.ultra_args.specs.declared.ScheduleSource.{ScheduleSource}
+use Rattle.ultra_args.specs.declared.ScheduleSource.TheVariants.{File, Seed}
 use Rattle.ultra_inputs.specs.declared.failure.Failure.{Failure}
 use Rattle.ultra_inputs.specs.declared.failure.Failure.TheVariants.{BadPe, NoMemory}
 use Rattle.ultra_inputs.specs.Traffic.{Traffic, IsStopped, WroteText, TextFails}
@@ -58,13 +58,14 @@ module _ (only_end : Bool) (conf prog path : List ℕ) (old new : Traffic) where
         → ScheduledFails f
 
 -- ---- by either kind of schedule
-abbrev pub WrotePara : ScheduleOf → Bool → List ℕ → List ℕ → Traffic → Traffic → Type 0
+abbrev pub WrotePara : ScheduleSource → Bool → List ℕ → List ℕ → Traffic → Traffic → Type 0
 WrotePara (File path) only_end conf prog old new =
     WroteScheduled only_end conf prog path.now old new
 WrotePara (Seed seed steps) only_end conf prog old new =
     WroteText (seeded_text seed steps only_end) conf prog old new
 
-abbrev pub ParaFails : ScheduleOf → Bool → List ℕ → List ℕ → Traffic → Traffic → Failure → Type 0
+abbrev pub ParaFails : ScheduleSource → Bool → List ℕ → List ℕ → Traffic → Traffic → Failure
+    → Type 0
 ParaFails (File path) only_end conf prog old new f =
     ScheduledFails only_end conf prog path.now old new f
 ParaFails (Seed seed steps) only_end conf prog old new f =

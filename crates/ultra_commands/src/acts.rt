@@ -1,13 +1,13 @@
 //! The lines of memory acts, over the trees that an explainer keeps.
 
 ghost use Rattle.std.specs.Prelude.{◌≡◌, ◌⊎◌, ◌++◌, false, true, codes, decimal, IfErr, OnErr, OnOk};
-ghost use Rattle.ultra_msg.specs.Bytes.{TakesPrefix, Writes};
+ghost use Rattle.ultra_msg.specs.Bytes.{TakesPrefix, WritesOrFails};
 ghost use Rattle.ultra_serial_law.specs.Tree.{trees_after};
 ghost use Rattle.ultra_serial_law.specs.Explicable.{AreAbsorbable, IsAbsorbable};
 ghost use Rattle.ultra_tree.specs.Absorb.{IsCombination};
 ghost use Rattle.ultra_tree.specs.Seen.{seen};
 ghost use Rattle.ultra_inputs.specs.declared.failure.Failure.TheVariants.{HeapFull, NoMemory};
-ghost use Rattle.ultra_commands.specs.Explanation.{tree_line, event_line, event_lines, trees_after_all, StopsAtCombination};
+ghost use Rattle.ultra_commands.specs.Explanation.{tree_line, tree_event_line, event_lines, trees_after_all, StopsAtCombination};
 
 use crate::line_buffer::LineBuffer;
 use std::alloc::Allocator;
@@ -37,9 +37,8 @@ pub(crate) fn put_lines<'p, A: Allocator + Clone>(
     ensures fault { IfErr result (λ f. (f ≡ HeapFull) ⊎ (f ≡ NoMemory)) }
     ensures heap_full { IfErr result (λ f. f ≡ HeapFull → explainer.new.is_spent ≡ true) }
     ensures no_memory { IfErr result (λ f. f ≡ NoMemory → explainer.new.is_spent ≡ false) }
-    ensures whole_lines { IfErr result (λ f. f ≡ HeapFull
-        → StopsAtCombination cycle explainer.old.trees events.now lines.old.bytes.items
-        lines.new.bytes.items) }
+    ensures whole_lines { IfErr result (λ f. f ≡ HeapFull → StopsAtCombination cycle
+        explainer.old.trees events.now lines.old.bytes.items lines.new.bytes.items) }
 {
     for event in events {
         put_event(cycle, event, explainer, lines)?;
@@ -62,8 +61,8 @@ fn put_event<'p, A: Allocator + Clone>(
       trees = trees_after explainer.old.trees event.now;
     }) }
     ensures ok { OnOk result (lines.new.bytes.items
-        ≡ lines.old.bytes.items ++ event_line cycle explainer.old.trees event.now) }
-    ensures err { OnErr result (TakesPrefix (event_line cycle explainer.old.trees event.now)
+        ≡ lines.old.bytes.items ++ tree_event_line cycle explainer.old.trees event.now) }
+    ensures err { OnErr result (TakesPrefix (tree_event_line cycle explainer.old.trees event.now)
         lines.old.bytes.items lines.new.bytes.items) }
     ensures fault { IfErr result (λ f. (f ≡ HeapFull) ⊎ (f ≡ NoMemory)) }
     ensures heap_full { IfErr result (λ f. f ≡ HeapFull → explainer.new.is_spent ≡ true) }
@@ -100,7 +99,7 @@ fn write_act<A: Allocator, S: Sink>(
     tree: &Tree<A>,
     sink: &mut S,
 ) -> Result<(), SinkFault>
-    ensures { Writes result (tree_line cycle memory_module cell (seen cell tree.now))
+    ensures { WritesOrFails result (tree_line cycle memory_module cell (seen cell tree.now))
         (S.taken sink.old) (S.taken sink.new) (S.failures sink.old) (S.failures sink.new) }
 {
     write_place(cycle, memory_module, cell, sink)?;
@@ -115,10 +114,9 @@ fn write_place<S: Sink>(
     cell: Cell,
     sink: &mut S,
 ) -> Result<(), SinkFault>
-    ensures { Writes result
-        (codes "cycle " ++ decimal cycle ++ codes " module " ++ decimal memory_module ++ codes " cell " ++
-        decimal cell ++ codes " ") (S.taken sink.old) (S.taken sink.new) (S.failures sink.old)
-        (S.failures sink.new) }
+    ensures { WritesOrFails result (codes "cycle " ++ decimal cycle ++ codes " module " ++
+        decimal memory_module ++ codes " cell " ++ decimal cell ++ codes " ") (S.taken sink.old)
+        (S.taken sink.new) (S.failures sink.old) (S.failures sink.new) }
 {
     let mut text = ShortText::new();
     add_bytes(&mut text, b"cycle ");

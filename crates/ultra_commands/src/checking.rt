@@ -53,9 +53,11 @@ pub(crate) fn check<'p, F: Source, O: Sink>(
     out: &mut O,
 ) -> Result<(), Failure<'p>>
     ensures ok { OnOk result (WroteLegal settings_path.now program_path.now list_path.now
-        (traffic (F.files source.old) (O.taken out.old)) (traffic (F.files source.new) (O.taken out.new))) }
+        (traffic (F.files source.old) (O.taken out.old))
+        (traffic (F.files source.new) (O.taken out.new))) }
     ensures err { IfErr result (CheckFails settings_path.now program_path.now list_path.now
-        (traffic (F.files source.old) (O.taken out.old)) (traffic (F.files source.new) (O.taken out.new))) }
+        (traffic (F.files source.old) (O.taken out.old))
+        (traffic (F.files source.new) (O.taken out.new))) }
     ensures read_still { OnOk result (F.failures source.new ≡ F.failures source.old) }
     ensures read_counted { IfErr result
         (λ f. F.failures source.new ≡ F.failures source.old + read_failures f) }

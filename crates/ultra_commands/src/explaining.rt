@@ -48,11 +48,14 @@ pub(crate) fn explain<'p, F: Source, O: Sink>(
     out: &mut O,
 ) -> Result<(), Failure<'p>>
     ensures ok { OnOk result (WroteText explanation_of settings_path.now program_path.now
-        (traffic (F.files source.old) (O.taken out.old)) (traffic (F.files source.new) (O.taken out.new))) }
-    ensures err { IfErr result (TextFails explanation_of IsCutShort settings_path.now program_path.now
-        (traffic (F.files source.old) (O.taken out.old)) (traffic (F.files source.new) (O.taken out.new))) }
-    ensures full { IfErr result (λ f. f ≡ HeapFull → EndsFull settings_path.now program_path.now
-        (traffic (F.files source.old) (O.taken out.old)) (traffic (F.files source.new) (O.taken out.new))) }
+        (traffic (F.files source.old) (O.taken out.old))
+        (traffic (F.files source.new) (O.taken out.new))) }
+    ensures err { IfErr result (TextFails explanation_of IsCutShort settings_path.now
+        program_path.now (traffic (F.files source.old) (O.taken out.old))
+        (traffic (F.files source.new) (O.taken out.new))) }
+    ensures full { IfErr result (λ f. f ≡ HeapFull →
+        EndsFull settings_path.now program_path.now (traffic (F.files source.old) (O.taken out.old))
+        (traffic (F.files source.new) (O.taken out.new))) }
     ensures read_still { OnOk result (F.failures source.new ≡ F.failures source.old) }
     ensures read_counted { IfErr result
         (λ f. F.failures source.new ≡ F.failures source.old + read_failures f) }
@@ -76,8 +79,8 @@ fn explain_run<'p, O: Sink>(
     requires { AreInRange config.now }
     ensures ok { OnOk result
         (O.taken out.new ≡ O.taken out.old ++ explanation_of config.now program.now) }
-    ensures err { OnErr result (TakesPrefix (explanation_of config.now program.now)
-        (O.taken out.old) (O.taken out.new)) }
+    ensures err { OnErr result
+        (TakesPrefix (explanation_of config.now program.now) (O.taken out.old) (O.taken out.new)) }
     ensures fault { IfErr result IsCutShort }
     ensures full { IfErr result (λ f. f ≡ HeapFull
         → StopsFull config.now program.now (O.taken out.old) (O.taken out.new)) }
@@ -112,8 +115,8 @@ fn explain_program<'p, O: Sink>(
         ≡ nothing_absorbed (size config.now) config.now.most_open }
     ensures ok { OnOk result
         (O.taken out.new ≡ O.taken out.old ++ explanation_of config.now program.now) }
-    ensures err { OnErr result (TakesPrefix (explanation_of config.now program.now)
-        (O.taken out.old) (O.taken out.new)) }
+    ensures err { OnErr result
+        (TakesPrefix (explanation_of config.now program.now) (O.taken out.old) (O.taken out.new)) }
     ensures fault { IfErr result IsCutShort }
     ensures full { IfErr result (λ f. f ≡ HeapFull
         → StopsFull config.now program.now (O.taken out.old) (O.taken out.new)) }
@@ -180,8 +183,8 @@ fn explain_cycles<'p, O: Sink>(
     requires start { machine.old.state ≡ start machine.old.settings }
     requires none_held { explainer.old
         ≡ nothing_absorbed (size machine.old.settings) machine.old.settings.most_open }
-    ensures ok { OnOk result (AreTakenOrWait
-        (explanation_of machine.old.settings machine.old.program)
+    ensures ok { OnOk result
+        (AreTakenOrWait (explanation_of machine.old.settings machine.old.program)
         (O.taken out.old) lines.old.bytes.items (O.taken out.new) lines.new.bytes.items) }
     ensures err { OnErr result (TakesPrefix
         (lines.old.bytes.items ++ explanation_of machine.old.settings machine.old.program)
@@ -221,9 +224,8 @@ fn explain_cycle<'p, O: Sink>(
     }) }
     ensures ok { OnOk result (AreTakenOrWait (event_lines cycle explainer.old.trees events.now)
         (O.taken out.old) lines.old.bytes.items (O.taken out.new) lines.new.bytes.items) }
-    ensures err { OnErr result (TakesPrefix
-        (lines.old.bytes.items ++ event_lines cycle explainer.old.trees events.now)
-        (O.taken out.old) (O.taken out.new)) }
+    ensures err { OnErr result (TakesPrefix (lines.old.bytes.items ++
+        event_lines cycle explainer.old.trees events.now) (O.taken out.old) (O.taken out.new)) }
     ensures fault { IfErr result IsCutShort }
     ensures full { IfErr result (λ f. f ≡ HeapFull
         → StopsAtCombination cycle explainer.old.trees events.now

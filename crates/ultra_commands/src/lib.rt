@@ -1,5 +1,4 @@
-//! The program `ultra` as a library: what it does with the words of its command line, its files and
-//! its streams.
+//! The program `ultra` as a library: what it does with its arguments, its files and its streams.
 #![tactic(auto)]
 
 mod acts;
@@ -35,7 +34,7 @@ use crate::trace::{part_asked, run};
 use std::sync::Wait;
 use std::thread::Threads;
 use ultra_args::{Invocation, Parsed, parse};
-use ultra_inputs::{Failure, give_up};
+use ultra_inputs::{Failure, report_failure};
 use ultra_io::Source;
 use ultra_msg::{Sink, write_all};
 use ultra_sweep_command::{SweepPlan, sweep};
@@ -45,9 +44,10 @@ use ultra_sweep_command::{SweepPlan, sweep};
 /// 4 no memory, no thread or a full heap, and 5 a failed write.
 ///
 /// The first of `words` is the program's name. Results, help and the version go to `out`; what is
-/// wrong goes to `err`. `clap` lays out the texts of help, of the version and of usage faults, and
-/// tests show them. A sweep and a run by several workers start threads, and the call may wait for
-/// them.
+/// wrong goes to `err`. With 2 and 3 nothing goes to `out`, with 4 and 5 a prefix of the results.
+/// Files are read from `source`. `clap` lays out the texts of help, of the version and of usage
+/// faults, and tests show them. A sweep and a run by several workers start threads, and the call
+/// may wait for them.
 pub fn main_with<'w, R: AllocGlobal + Threads + Wait + Sync, F: Source, O: Sink, E: Sink>(
     rt: &R,
     words: &'w [&'w str],
@@ -59,15 +59,17 @@ pub fn main_with<'w, R: AllocGlobal + Threads + Wait + Sync, F: Source, O: Sink,
     ensures nothing { IsRefusal result → O.taken out.new ≡ O.taken out.old }
     ensures counted { O.failures out.new ≡ O.failures out.old + status_failures result }
     ensures read_still { result ≢ 3 → F.failures source.new ≡ F.failures source.old }
-    ensures done { result ≡ 0 → (p : Parsed) × IsAskedBy (map (λ w. w.now) words.entry.now) p × Obeyed p
-        (traffic (F.files source.old) (O.taken out.old)) (traffic (F.files source.new) (O.taken out.new))
+    ensures done { result ≡ 0 → (p : Parsed) × IsAskedBy (map (λ w. w.now) words.entry.now) p ×
+        Obeyed p (traffic (F.files source.old) (O.taken out.old))
+        (traffic (F.files source.new) (O.taken out.new))
         (stream (E.taken err.old) (E.failures err.old))
         (stream (E.taken err.new) (E.failures err.new)) }
-    ensures failed { result ≢ 0 → (p : Parsed) × IsAskedBy (map (λ w. w.now) words.entry.now) p × Failed p
-        (traffic (F.files source.old) (O.taken out.old)) (traffic (F.files source.new) (O.taken out.new))
+    ensures failed { result ≢ 0 → (p : Parsed) × IsAskedBy (map (λ w. w.now) words.entry.now) p ×
+        Failed p (traffic (F.files source.old) (O.taken out.old))
+        (traffic (F.files source.new) (O.taken out.new))
         (stream (E.taken err.old) (E.failures err.old))
-        (stream (E.taken err.new) (E.failures err.new))
-        (F.failures source.old) (F.failures source.new) result }
+        (stream (E.taken err.new) (E.failures err.new)) (F.failures source.old)
+        (F.failures source.new) result }
 {
     obey(rt, parse(rt.alloc(), words), source, out, err)
 }
@@ -80,21 +82,20 @@ fn obey<'w, R: AllocGlobal + Threads + Wait + Sync, F: Source, O: Sink, E: Sink>
     out: &mut O,
     err: &mut E,
 ) -> u8
-    ensures { HasEnded parsed.entry
-        (traffic (F.files source.old) (O.taken out.old)) (traffic (F.files source.new) (O.taken out.new))
+    ensures { HasEnded parsed.entry (traffic (F.files source.old) (O.taken out.old))
+        (traffic (F.files source.new) (O.taken out.new))
         (stream (E.taken err.old) (E.failures err.old))
-        (stream (E.taken err.new) (E.failures err.new))
-        (F.failures source.old) (F.failures source.new)
-        (O.failures out.old) (O.failures out.new) result }
+        (stream (E.taken err.new) (E.failures err.new)) (F.failures source.old)
+        (F.failures source.new) (O.failures out.old) (O.failures out.new) result }
 {
     match parsed {
         Parsed::Invocation(command) => carry_out(rt, &command, source, out, err),
         Parsed::Help(text) | Parsed::Version(text) => match write_all(out, text.as_bytes()) {
             Ok(()) => 0,
-            Err(_) => give_up(&Failure::NotWritten, err),
+            Err(_) => report_failure(&Failure::NotWritten, err),
         },
-        Parsed::Usage(text) => give_up(&Failure::Usage(text), err),
-        Parsed::NoMemory => give_up(&Failure::NoMemory, err),
+        Parsed::Usage(text) => report_failure(&Failure::Usage(text), err),
+        Parsed::NoMemory => report_failure(&Failure::NoMemory, err),
     }
 }
 
@@ -107,11 +108,11 @@ fn carry_out<'w, R: AllocGlobal + Threads + Wait + Sync, F: Source, O: Sink, E: 
     err: &mut E,
 ) -> u8
     ensures { HasEnded (Parsed.Invocation command.now)
-        (traffic (F.files source.old) (O.taken out.old)) (traffic (F.files source.new) (O.taken out.new))
+        (traffic (F.files source.old) (O.taken out.old))
+        (traffic (F.files source.new) (O.taken out.new))
         (stream (E.taken err.old) (E.failures err.old))
-        (stream (E.taken err.new) (E.failures err.new))
-        (F.failures source.old) (F.failures source.new)
-        (O.failures out.old) (O.failures out.new) result }
+        (stream (E.taken err.new) (E.failures err.new)) (F.failures source.old)
+        (F.failures source.new) (O.failures out.old) (O.failures out.new) result }
 {
     let alloc = rt.alloc();
     match *command {
@@ -125,7 +126,7 @@ fn carry_out<'w, R: AllocGlobal + Threads + Wait + Sync, F: Source, O: Sink, E: 
         } => {
             let part = part_asked(from, to, only);
             let done = run(rt, alloc, settings, program, part, workers, source, out);
-            ended(done, err)
+            report_outcome(done, err)
         }
         Invocation::Events {
             settings,
@@ -135,11 +136,11 @@ fn carry_out<'w, R: AllocGlobal + Threads + Wait + Sync, F: Source, O: Sink, E: 
         } => {
             let events = Events { from, to };
             let done = write_run_output(alloc, settings, program, &events, source, out);
-            ended(done, err)
+            report_outcome(done, err)
         }
         Invocation::Requests { settings, program } => {
             let done = write_run_output(alloc, settings, program, &Requests, source, out);
-            ended(done, err)
+            report_outcome(done, err)
         }
         Invocation::Measure {
             settings,
@@ -149,11 +150,11 @@ fn carry_out<'w, R: AllocGlobal + Threads + Wait + Sync, F: Source, O: Sink, E: 
         } => {
             let measures = Measures { csv, every };
             let done = write_run_output(alloc, settings, program, &measures, source, out);
-            ended(done, err)
+            report_outcome(done, err)
         }
         Invocation::Order { settings, program } => {
             let done = write_run_output(alloc, settings, program, &SerialOrder, source, out);
-            ended(done, err)
+            report_outcome(done, err)
         }
         Invocation::Explain {
             settings,
@@ -161,7 +162,7 @@ fn carry_out<'w, R: AllocGlobal + Threads + Wait + Sync, F: Source, O: Sink, E: 
             heap,
         } => {
             let done = explain(alloc, settings, program, heap, source, out);
-            ended(done, err)
+            report_outcome(done, err)
         }
         Invocation::Check {
             settings,
@@ -169,7 +170,7 @@ fn carry_out<'w, R: AllocGlobal + Threads + Wait + Sync, F: Source, O: Sink, E: 
             list,
         } => {
             let done = check(alloc, settings, program, list, source, out);
-            ended(done, err)
+            report_outcome(done, err)
         }
         Invocation::Para {
             settings,
@@ -178,10 +179,10 @@ fn carry_out<'w, R: AllocGlobal + Threads + Wait + Sync, F: Source, O: Sink, E: 
             only_end,
         } => {
             let done = para(alloc, settings, program, schedule, only_end, source, out);
-            ended(done, err)
+            report_outcome(done, err)
         }
         Invocation::List { program, careful } => {
-            ended(list(alloc, program, careful, source, out), err)
+            report_outcome(list(alloc, program, careful, source, out), err)
         }
         Invocation::Sweep {
             jobs,
@@ -198,17 +199,19 @@ fn carry_out<'w, R: AllocGlobal + Threads + Wait + Sync, F: Source, O: Sink, E: 
             };
             sweep(rt, alloc, jobs, plan, source, out, err)
         }
-        Invocation::Lib(coordination) => { ended(write_program(alloc, coordination, out), err) }
+        Invocation::Lib(coordination) => {
+            report_outcome(write_program(alloc, coordination, out), err)
+        }
     }
 }
 
 /// The status of a command that is done or has failed. A failure is reported on `err`.
-fn ended<'p, E: Sink>(done: Result<(), Failure<'p>>, err: &mut E) -> u8
+fn report_outcome<'p, E: Sink>(done: Result<(), Failure<'p>>, err: &mut E) -> u8
     ensures { HasReported done.entry (stream (E.taken err.old) (E.failures err.old))
         (stream (E.taken err.new) (E.failures err.new)) result }
 {
     match done {
         Ok(()) => 0,
-        Err(failure) => give_up(&failure, err),
+        Err(failure) => report_failure(&failure, err),
     }
 }

@@ -39,8 +39,8 @@ impl LineBuffer {
     /// Writes what waits, so that nothing waits any more.
     pub fn flush<'p, O: Sink>(&mut self, out: &mut O) -> Result<(), Failure<'p>>
         ensures ok { OnOk result (O.taken out.new ≡ O.taken out.old ++ self.old.bytes.items) }
-        ensures err { OnErr result (TakesPrefix self.old.bytes.items (O.taken out.old)
-            (O.taken out.new)) }
+        ensures err { OnErr result
+            (TakesPrefix self.old.bytes.items (O.taken out.old) (O.taken out.new)) }
         ensures fault { IfErr result (λ f. f ≡ NotWritten) }
         ensures still { OnOk result (O.failures out.new ≡ O.failures out.old) }
         ensures counted { OnErr result (O.failures out.new ≡ O.failures out.old + 1) }

@@ -24,10 +24,12 @@ pub(crate) fn list<'p, F: Source, O: Sink>(
     source: &mut F,
     out: &mut O,
 ) -> Result<(), Failure<'p>>
-    ensures ok { OnOk result (WroteListing program_path.now careful
-        (traffic (F.files source.old) (O.taken out.old)) (traffic (F.files source.new) (O.taken out.new))) }
-    ensures err { IfErr result (ListFails program_path.now careful
-        (traffic (F.files source.old) (O.taken out.old)) (traffic (F.files source.new) (O.taken out.new))) }
+    ensures ok { OnOk result
+        (WroteListing program_path.now careful (traffic (F.files source.old) (O.taken out.old))
+        (traffic (F.files source.new) (O.taken out.new))) }
+    ensures err { IfErr result
+        (ListFails program_path.now careful (traffic (F.files source.old) (O.taken out.old))
+        (traffic (F.files source.new) (O.taken out.new))) }
     ensures read_still { OnOk result (F.failures source.new ≡ F.failures source.old) }
     ensures read_counted { IfErr result
         (λ f. F.failures source.new ≡ F.failures source.old + read_failures f) }

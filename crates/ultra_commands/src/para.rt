@@ -6,10 +6,10 @@ ghost use Rattle.ultra_inputs.specs.Traffic.{traffic};
 ghost use Rattle.ultra_commands.specs.Paracomputer.{seeded_text, ExplainsSchedule, IsScheduleOf, ParaFails, ScheduledFails, WrotePara, WroteScheduled};
 
 use crate::run_output::{RunOutput, write_run_output};
-use crate::run_texts::failure_of_stop;
+use crate::run_texts::failure_of_run_alone;
 use crate::third_file::{ThirdFile, read_three};
 use std::alloc::Global;
-use ultra_args::ScheduleOf;
+use ultra_args::ScheduleSource;
 use ultra_inputs::{Failure, Inputs};
 use ultra_io::Source;
 use ultra_isa::Program;
@@ -75,7 +75,7 @@ impl RunOutput for SeededRun {
         );
         match written {
             Ok(()) => Ok(()),
-            Err(fault) => Err(failure_of_stop(fault)),
+            Err(fault) => Err(failure_of_run_alone(fault)),
         }
     }
 }
@@ -90,15 +90,17 @@ pub(crate) fn para<'p, F: Source, O: Sink>(
     alloc: Global,
     settings_path: &'p str,
     program_path: &'p str,
-    schedule: ScheduleOf<'p>,
+    schedule: ScheduleSource<'p>,
     only_end: bool,
     source: &mut F,
     out: &mut O,
 ) -> Result<(), Failure<'p>>
     ensures ok { OnOk result (WrotePara schedule.entry only_end settings_path.now program_path.now
-        (traffic (F.files source.old) (O.taken out.old)) (traffic (F.files source.new) (O.taken out.new))) }
+        (traffic (F.files source.old) (O.taken out.old))
+        (traffic (F.files source.new) (O.taken out.new))) }
     ensures err { IfErr result (ParaFails schedule.entry only_end settings_path.now program_path.now
-        (traffic (F.files source.old) (O.taken out.old)) (traffic (F.files source.new) (O.taken out.new))) }
+        (traffic (F.files source.old) (O.taken out.old))
+        (traffic (F.files source.new) (O.taken out.new))) }
     ensures read_still { OnOk result (F.failures source.new ≡ F.failures source.old) }
     ensures read_counted { IfErr result
         (λ f. F.failures source.new ≡ F.failures source.old + read_failures f) }
@@ -107,7 +109,7 @@ pub(crate) fn para<'p, F: Source, O: Sink>(
         (λ f. O.failures out.new ≡ O.failures out.old + write_failures f) }
 {
     match schedule {
-        ScheduleOf::File(path) => {
+        ScheduleSource::File(path) => {
             para_by_file(
                 alloc,
                 settings_path,
@@ -118,7 +120,7 @@ pub(crate) fn para<'p, F: Source, O: Sink>(
                 out,
             )
         }
-        ScheduleOf::Seed { seed, steps } => {
+        ScheduleSource::Seed { seed, steps } => {
             let run = SeededRun {
                 seed,
                 steps,
@@ -139,10 +141,12 @@ fn para_by_file<'p, F: Source, O: Sink>(
     source: &mut F,
     out: &mut O,
 ) -> Result<(), Failure<'p>>
-    ensures ok { OnOk result (WroteScheduled only_end settings_path.now program_path.now schedule_path.now
-        (traffic (F.files source.old) (O.taken out.old)) (traffic (F.files source.new) (O.taken out.new))) }
-    ensures err { IfErr result (ScheduledFails only_end settings_path.now program_path.now schedule_path.now
-        (traffic (F.files source.old) (O.taken out.old)) (traffic (F.files source.new) (O.taken out.new))) }
+    ensures ok { OnOk result (WroteScheduled only_end settings_path.now
+        program_path.now schedule_path.now (traffic (F.files source.old) (O.taken out.old))
+        (traffic (F.files source.new) (O.taken out.new))) }
+    ensures err { IfErr result (ScheduledFails only_end settings_path.now program_path.now
+        schedule_path.now (traffic (F.files source.old) (O.taken out.old))
+        (traffic (F.files source.new) (O.taken out.new))) }
     ensures read_still { OnOk result (F.failures source.new ≡ F.failures source.old) }
     ensures read_counted { IfErr result
         (λ f. F.failures source.new ≡ F.failures source.old + read_failures f) }
@@ -155,6 +159,6 @@ fn para_by_file<'p, F: Source, O: Sink>(
     let ScheduledSteps { pes } = &steps;
     match write_para(alloc, config, program, pes.as_slice(), only_end, out) {
         Ok(()) => Ok(()),
-        Err(fault) => Err(failure_of_stop(fault)),
+        Err(fault) => Err(failure_of_run_alone(fault)),
     }
 }

@@ -44,7 +44,7 @@ impl RunOutput for Events {
     ) -> Result<(), Failure<'p>> {
         match write_events(alloc, config, program, self.from, self.to, sink) {
             Ok(()) => Ok(()),
-            Err(fault) => Err(failure_of_stop(fault)),
+            Err(fault) => Err(failure_of_run_alone(fault)),
         }
     }
 }
@@ -64,7 +64,7 @@ impl RunOutput for Requests {
     ) -> Result<(), Failure<'p>> {
         match write_requests(alloc, config, program, sink) {
             Ok(()) => Ok(()),
-            Err(fault) => Err(failure_of_stop(fault)),
+            Err(fault) => Err(failure_of_run_alone(fault)),
         }
     }
 }
@@ -90,7 +90,7 @@ impl RunOutput for Measures {
     ) -> Result<(), Failure<'p>> {
         match measure(alloc, config, program, self.layout(), sink) {
             Ok(()) => Ok(()),
-            Err(fault) => Err(failure_of_stop(fault)),
+            Err(fault) => Err(failure_of_run_alone(fault)),
         }
     }
 }
@@ -112,7 +112,7 @@ impl Measures {
 }
 
 /// The command's failure for a fault of a run in the caller's thread.
-pub(crate) fn failure_of_stop<'p>(fault: RunFault) -> Failure<'p>
+pub(crate) fn failure_of_run_alone<'p>(fault: RunFault) -> Failure<'p>
     requires { fault ≢ NoThread }
     ensures stopped { IsStopped result }
     ensures counted { write_failures result ≡ sink_faults fault }

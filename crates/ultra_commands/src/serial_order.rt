@@ -3,7 +3,7 @@
 ghost use Rattle.std.specs.Prelude.{◌≡◌, ◌+◌, ◌++◌, false, IfErr, OnErr, OnOk};
 ghost use Rattle.ultra_msg.specs.Bytes.{TakesPrefix};
 ghost use Rattle.ultra_io.specs.TextBuffer.{Writes, WritesPrefix, has_failed};
-ghost use Rattle.ultra_serial.specs.Ordered.{whole};
+ghost use Rattle.ultra_serial.specs.OrderedRunState.{whole_list};
 ghost use Rattle.ultra_inputs.specs.Failure.{write_failures};
 ghost use Rattle.ultra_inputs.specs.Traffic.{IsStopped};
 ghost use Rattle.ultra_commands.specs.Order.{order_of, order_text};
@@ -45,8 +45,8 @@ fn order_run<'p, O: Sink>(
 ) -> Result<(), Failure<'p>>
     ensures ok { OnOk result
         (O.taken out.new ≡ O.taken out.old ++ order_of config.now program.now) }
-    ensures err { OnErr result (TakesPrefix (order_of config.now program.now)
-        (O.taken out.old) (O.taken out.new)) }
+    ensures err { OnErr result
+        (TakesPrefix (order_of config.now program.now) (O.taken out.old) (O.taken out.new)) }
     ensures stopped { IfErr result IsStopped }
     ensures still { OnOk result (O.failures out.new ≡ O.failures out.old) }
     ensures counted { IfErr result
@@ -59,9 +59,10 @@ fn order_run<'p, O: Sink>(
 /// Makes a run from its start to its end, and writes the lines of its serial order.
 fn write_order<'p, O: Sink>(run: &mut OrderedRun, out: &mut O) -> Result<(), Failure<'p>>
     requires { run.old.cycles ≡ 0 }
-    ensures ok { OnOk result (O.taken out.new ≡ O.taken out.old ++ order_text (whole run.old)) }
-    ensures err { OnErr result (TakesPrefix (order_text (whole run.old)) (O.taken out.old)
-        (O.taken out.new)) }
+    ensures ok { OnOk result
+        (O.taken out.new ≡ O.taken out.old ++ order_text (whole_list run.old)) }
+    ensures err { OnErr result
+        (TakesPrefix (order_text (whole_list run.old)) (O.taken out.old) (O.taken out.new)) }
     ensures stopped { IfErr result IsStopped }
     ensures still { OnOk result (O.failures out.new ≡ O.failures out.old) }
     ensures counted { IfErr result
@@ -84,9 +85,9 @@ fn put_order<O: Sink>(
     requires start { run.old.cycles ≡ 0 }
     requires sound { has_failed buffer.old ≡ false }
     ensures ok { OnOk result
-        (Writes O.taken O.failures (order_text (whole run.old)) buffer.old buffer.new) }
+        (Writes O.taken O.failures (order_text (whole_list run.old)) buffer.old buffer.new) }
     ensures err { OnErr result
-        (WritesPrefix O.taken O.failures (order_text (whole run.old)) buffer.old buffer.new) }
+        (WritesPrefix O.taken O.failures (order_text (whole_list run.old)) buffer.old buffer.new) }
     ensures sound { OnErr result (has_failed buffer.new ≡ false) }
 {
     while !buffer.has_failed() && run.advance()? {

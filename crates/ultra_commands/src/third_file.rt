@@ -40,10 +40,10 @@ pub(crate) fn read_three<'p, T: ThirdFile, F: Source>(
     third_path: &'p str,
     source: &mut F,
 ) -> Result<(Inputs, T), Failure<'p>>
-    ensures ok { IfOk result (λ r. GaveThree T.gives settings_path.now program_path.now third_path.now
-        (F.files source.old) (F.files source.new) r.0.config r.0.program r.1) }
-    ensures err { IfErr result (GaveNoThree T.explains settings_path.now program_path.now third_path.now
-        (F.files source.old) (F.files source.new)) }
+    ensures ok { IfOk result (λ r. GaveThree T.gives settings_path.now program_path.now
+        third_path.now (F.files source.old) (F.files source.new) r.0.config r.0.program r.1) }
+    ensures err { IfErr result (GaveNoThree T.explains settings_path.now program_path.now
+        third_path.now (F.files source.old) (F.files source.new)) }
     ensures still { OnOk result (F.failures source.new ≡ F.failures source.old) }
     ensures counted { IfErr result
         (λ f. F.failures source.new ≡ F.failures source.old + read_failures f) }
@@ -60,8 +60,8 @@ fn read_third<'p, T: ThirdFile, F: Source>(
     path: &'p str,
     source: &mut F,
 ) -> Result<T, Failure<'p>>
-    ensures ok { IfOk result (FileGave (T.gives config.now) path.now (F.files source.old)
-        (F.files source.new)) }
+    ensures ok { IfOk result
+        (FileGave (T.gives config.now) path.now (F.files source.old) (F.files source.new)) }
     ensures err { IfErr result (FileGaveNothing (T.explains config.now) path.now
         (F.files source.old) (F.files source.new)) }
     ensures still { OnOk result (F.failures source.new ≡ F.failures source.old) }

@@ -57,9 +57,11 @@ pub(crate) fn run<'p, R: Threads + Wait + Sync, F: Source, O: Sink>(
     out: &mut O,
 ) -> Result<(), Failure<'p>>
     ensures ok { OnOk result (WroteRun part settings_path.now program_path.now
-        (traffic (F.files source.old) (O.taken out.old)) (traffic (F.files source.new) (O.taken out.new))) }
+        (traffic (F.files source.old) (O.taken out.old))
+        (traffic (F.files source.new) (O.taken out.new))) }
     ensures err { IfErr result (RunFails part workers settings_path.now program_path.now
-        (traffic (F.files source.old) (O.taken out.old)) (traffic (F.files source.new) (O.taken out.new))) }
+        (traffic (F.files source.old) (O.taken out.old))
+        (traffic (F.files source.new) (O.taken out.new))) }
     ensures read_still { OnOk result (F.failures source.new ≡ F.failures source.old) }
     ensures read_counted { IfErr result
         (λ f. F.failures source.new ≡ F.failures source.old + read_failures f) }
@@ -96,10 +98,11 @@ fn write_part<R: Threads + Wait + Sync, O: Sink>(
 ) -> Result<(), RunFault>
     requires some_worker { 1 ≤ workers }
     requires most_workers { workers ≤ 64 }
-    ensures ok { OnOk result (O.taken out.new ≡ O.taken out.old ++ part_of part config.now program.now) }
+    ensures ok { OnOk result
+        (O.taken out.new ≡ O.taken out.old ++ part_of part config.now program.now) }
     ensures still { OnOk result (O.failures out.new ≡ O.failures out.old) }
-    ensures err { OnErr result (TakesPrefix (part_of part config.now program.now) (O.taken out.old)
-        (O.taken out.new)) }
+    ensures err { OnErr result
+        (TakesPrefix (part_of part config.now program.now) (O.taken out.old) (O.taken out.new)) }
     ensures counted { IfErr result (λ e. O.failures out.new ≡ O.failures out.old + sink_faults e) }
     ensures alone { workers ≡ 1 → IfErr result (λ e. e ≢ NoThread) }
 {

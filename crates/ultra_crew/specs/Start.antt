@@ -24,8 +24,8 @@ module _ (c : Settings) (m : Machine) where
     wait_places = c.wait_places;
   }
 
-  abbrev pub replies_in : ℕ → ℕ → SizedReplies
-  replies_in s y = record { replies = replies_at m s y; places = c.reply_places }
+  abbrev pub reply_queue_in : ℕ → ℕ → SizedReplies
+  reply_queue_in s y = record { replies = replies_at m s y; places = c.reply_places }
 
   abbrev pub switch_in : ℕ → Switch
   switch_in n =
@@ -33,7 +33,7 @@ module _ (c : Settings) (m : Machine) where
       let k : ℕ = index_of c.stages n in
       record {
         to_mm = ports (lane_in s (2 * k)) (lane_in s (2 * k + 1));
-        to_pe = ports (replies_in s (2 * k)) (replies_in s (2 * k + 1));
+        to_pe = ports (reply_queue_in s (2 * k)) (reply_queue_in s (2 * k + 1));
       }
 
   abbrev pub element_in : ℕ → ProcessingElement

@@ -26,7 +26,9 @@ impl<J: ExpectedResults> Model for Assignment<J> {
 
     ghost view = { λ _. tt };
 
-    ghost invariant = { λ o. All (CanBeMade J.program o.name.half) o.team.items × (map (task_after_half o.name.half o.rooms J.program) o.team.items ≡ J.results o.name.cycle o.name.half o.name.worker) };
+    ghost invariant = { λ o. All (CanBeMade J.program o.name.half) o.team.items ×
+        (map (task_after_half o.name.half o.rooms J.program) o.team.items ≡
+        J.results o.name.cycle o.name.half o.name.worker) };
 }
 
 /// The team of a worker after a half.

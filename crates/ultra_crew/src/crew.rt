@@ -24,7 +24,9 @@ pub const MOST_WORKERS: usize = 64;
 /// The machine's count of cycles has to be below `2^32 - 1`.
 pub fn cycle_alone(blocks: &mut Blocks)
     requires { blocks.old.machine.cycles < 2 ^ 32 - 1 }
-    ensures { blocks.new ≡ record blocks.old { machine = next_cycle blocks.old.config blocks.old.program blocks.old.machine } }
+    ensures { blocks.new ≡ record blocks.old {
+      machine = next_cycle blocks.old.config blocks.old.program blocks.old.machine;
+    } }
 {
     blocks.cycle();
 }
@@ -55,7 +57,8 @@ impl Crew {
         requires counted { blocks.machine.cycles < 2 ^ 32 - 1 }
         requires some_worker { 1 ≤ workers }
         requires most_workers { workers ≤ 64 }
-        ensures state { IfOk result (λ b. b ≡ record blocks { machine = next_cycle blocks.config blocks.program blocks.machine }) }
+        ensures state { IfOk result (λ b. b ≡
+            record blocks { machine = next_cycle blocks.config blocks.program blocks.machine }) }
         ensures alone { workers ≡ 1 → IsOk result }
     {
         Crew::cycles(rt, alloc, blocks, workers, gate, 1)
@@ -80,7 +83,9 @@ impl Crew {
         requires counted { blocks.machine.cycles + count < 2 ^ 32 }
         requires some_worker { 1 ≤ workers }
         requires most_workers { workers ≤ 64 }
-        ensures state { IfOk result (λ b. b ≡ record blocks { machine = cycles_on blocks.config blocks.program count blocks.machine }) }
+        ensures state { IfOk result (λ b. b ≡ record blocks {
+          machine = cycles_on blocks.config blocks.program count blocks.machine;
+        }) }
         ensures alone { workers ≡ 1 → IsOk result }
     {
         if workers == 1 {
@@ -95,7 +100,9 @@ impl Crew {
 #[tactic(auto, using(crate::proofs::Counted::made_later))]
 fn cycles_alone(blocks: &mut Blocks, count: u32)
     requires { blocks.old.machine.cycles + count < 2 ^ 32 }
-    ensures { blocks.new ≡ record blocks.old { machine = cycles_on blocks.old.config blocks.old.program count blocks.old.machine } }
+    ensures { blocks.new ≡ record blocks.old {
+      machine = cycles_on blocks.old.config blocks.old.program count blocks.old.machine;
+    } }
 {
     for _ in 0..count {
         cycle_alone(blocks);
@@ -112,7 +119,7 @@ fn count_busy(blocks: Blocks, workers: usize) -> (Blocks, usize)
 {
     let parts = blocks.into_parts();
     let busy = workers.min(parts.blocks.len()).max(1);
-    (Blocks::of_parts(parts), busy)
+    (Blocks::from_parts(parts), busy)
 }
 
 /// The machine makes n cycles, whose halves are made by workers in their own threads. The threads
@@ -127,8 +134,10 @@ fn cycles_together<J: ExpectedResults + Send, R: Threads + Wait + Sync, G: Gate 
 ) -> Result<Blocks, CrewFault>
     requires counted { blocks.machine.cycles + count < 2 ^ 32 }
     requires some_worker { 1 ≤ workers }
-    requires expected { AreExpectedResults J.results J.program (busy_workers workers blocks.count) blocks }
-    ensures { IfOk result (λ b. b ≡ record blocks { machine = cycles_on blocks.config blocks.program count blocks.machine }) }
+    requires expected { AreExpectedResults J.results J.program
+        (busy_workers workers blocks.count) blocks }
+    ensures { IfOk result (λ b. b ≡
+        record blocks { machine = cycles_on blocks.config blocks.program count blocks.machine }) }
 {
     let (blocks, busy) = count_busy(blocks, workers);
     thread::scope(
@@ -138,7 +147,9 @@ fn cycles_together<J: ExpectedResults + Send, R: Threads + Wait + Sync, G: Gate 
             requires counted { blocks.machine.cycles + count < 2 ^ 32 }
             requires some_worker { 1 ≤ busy }
             requires expected { AreExpectedResults J.results J.program busy blocks }
-            ensures { IfOk result (λ b. b ≡ record blocks { machine = cycles_on blocks.config blocks.program count blocks.machine }) }
+            ensures { IfOk result (λ b. b ≡ record blocks {
+              machine = cycles_on blocks.config blocks.program count blocks.machine;
+            }) }
         {
             let pool = WorkerPool::<J>::start(scope, rt, alloc, busy, gate)?;
             let result = pool.cycles(rt, alloc, blocks, count);

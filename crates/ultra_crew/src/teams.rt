@@ -35,7 +35,8 @@ pub fn deal_to_teams(
     requires some_worker { 1 ≤ length teams.old.items }
     requires empty { AreEmptyTeams (length teams.old.items) teams.old.items }
     ensures count { length teams.new.items ≡ length teams.old.items }
-    ensures teams { OnOk result (AreTeams (length teams.old.items) teams.new.items blocks.old.items) }
+    ensures teams { OnOk result
+        (AreTeams (length teams.old.items) teams.new.items blocks.old.items) }
     ensures blocks { OnOk result (blocks.new.items ≡ []) }
 {
     let workers = teams.len();
@@ -58,8 +59,11 @@ pub fn collect_from_teams(
     requires some_worker { 1 ≤ length teams.old.items }
     requires empty { blocks.old.items ≡ [] }
     ensures count { length teams.new.items ≡ length teams.old.items }
-    ensures blocks { OnOk result ((bs : List BlockState) → length bs ≡ count → AreTeams (length teams.old.items) teams.old.items bs → blocks.new.items ≡ bs) }
-    ensures teams { OnOk result ((bs : List BlockState) → length bs ≡ count → AreTeams (length teams.old.items) teams.old.items bs → AreEmptyTeams (length teams.old.items) teams.new.items) }
+    ensures blocks { OnOk result ((bs : List BlockState) → length bs ≡ count →
+        AreTeams (length teams.old.items) teams.old.items bs → blocks.new.items ≡ bs) }
+    ensures teams { OnOk result ((bs : List BlockState) → length bs ≡ count →
+        AreTeams (length teams.old.items) teams.old.items bs →
+        AreEmptyTeams (length teams.old.items) teams.new.items) }
 {
     let workers = teams.len();
     for number in (0..count).rev() {

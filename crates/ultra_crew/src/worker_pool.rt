@@ -85,7 +85,8 @@ impl<J: ExpectedResults> WorkerPool<J> {
         requires counted { blocks.machine.cycles < 2 ^ 32 - 1 }
         requires some_worker { 1 ≤ self.now }
         requires expected { AreExpectedResults J.results J.program self.now blocks }
-        ensures state { IfOk result (λ b. b ≡ record blocks { machine = next_cycle blocks.config blocks.program blocks.machine }) }
+        ensures state { IfOk result (λ b. b ≡
+            record blocks { machine = next_cycle blocks.config blocks.program blocks.machine }) }
         ensures expected { IfOk result (λ b. AreExpectedResults J.results J.program self.now b) }
     {
         let Parts {
@@ -96,7 +97,7 @@ impl<J: ExpectedResults> WorkerPool<J> {
             blocks,
         } = blocks.into_parts();
         let blocks = self.make_cycle(rt, alloc, &config, partition.as_slice(), done, blocks)?;
-        Ok(Blocks::of_parts(Parts {
+        Ok(Blocks::from_parts(Parts {
             config,
             program,
             partition,
@@ -117,7 +118,9 @@ impl<J: ExpectedResults> WorkerPool<J> {
         requires counted { blocks.machine.cycles + count < 2 ^ 32 }
         requires some_worker { 1 ≤ self.now }
         requires expected { AreExpectedResults J.results J.program self.now blocks }
-        ensures { IfOk result (λ b. b ≡ record blocks { machine = cycles_on blocks.config blocks.program count blocks.machine }) }
+        ensures { IfOk result (λ b. b ≡ record blocks {
+          machine = cycles_on blocks.config blocks.program count blocks.machine;
+        }) }
     {
         for _ in 0..count {
             blocks = self.cycle(rt, alloc, blocks)?;
@@ -140,9 +143,13 @@ impl<J: ExpectedResults> WorkerPool<J> {
         requires whole { AreWhole config.now J.program partition.now done blocks.items }
         requires counted { done < 2 ^ 32 - 1 }
         requires some_worker { 1 ≤ self.now }
-        requires settled { (h : Half) (w : ℕ) → J.results done h w ≡ results_in self.now (state_of config.now J.program partition.now done blocks.items) h w }
-        ensures whole { IfOk result (λ v. AreWhole config.now J.program partition.now (done + 1) v.items) }
-        ensures state { IfOk result (λ v. machine_in config.now partition.now (done + 1) v.items ≡ next_cycle config.now J.program (machine_in config.now partition.now done blocks.items)) }
+        requires settled { (h : Half) (w : ℕ) → J.results done h w ≡ results_in self.now
+            (state_of config.now J.program partition.now done blocks.items) h w }
+        ensures whole { IfOk result (λ v.
+            AreWhole config.now J.program partition.now (done + 1) v.items) }
+        ensures state { IfOk result (λ v.
+            machine_in config.now partition.now (done + 1) v.items ≡ next_cycle config.now J.program
+            (machine_in config.now partition.now done blocks.items)) }
         ensures count { IfOk result (λ v. length v.items ≡ length blocks.items) }
     {
         let net = config.net();
@@ -175,7 +182,8 @@ impl<J: ExpectedResults> WorkerPool<J> {
         requires some_worker { 1 ≤ self.now }
         requires teams { AreEmptyTeams self.now teams.old.items }
         requires due { IsDue J.results J.program self.now cycle half rooms.now blocks.items }
-        ensures blocks { IfOk result (λ v. v.items ≡ all_after_half half rooms.now J.program blocks.items) }
+        ensures blocks { IfOk result (λ v.
+            v.items ≡ all_after_half half rooms.now J.program blocks.items) }
         ensures teams { OnOk result (AreEmptyTeams self.now teams.new.items) }
     {
         let count = blocks.len();
@@ -199,8 +207,10 @@ impl<J: ExpectedResults> WorkerPool<J> {
         requires some_worker { 1 ≤ self.now }
         requires teams { AreEmptyTeams self.now teams.old.items }
         requires due { IsDue J.results J.program self.now cycle halves.0 rooms.now blocks.items }
-        requires due_again { IsDue J.results J.program self.now cycle halves.1 rooms.now (all_after_half halves.0 rooms.now J.program blocks.items) }
-        ensures blocks { IfOk result (λ v. v.items ≡ all_after_half halves.1 rooms.now J.program (all_after_half halves.0 rooms.now J.program blocks.items)) }
+        requires due_again { IsDue J.results J.program self.now cycle halves.1 rooms.now
+            (all_after_half halves.0 rooms.now J.program blocks.items) }
+        ensures blocks { IfOk result (λ v. v.items ≡ all_after_half halves.1 rooms.now J.program
+            (all_after_half halves.0 rooms.now J.program blocks.items)) }
         ensures teams { OnOk result (AreEmptyTeams self.now teams.new.items) }
     {
         let count = blocks.len();
@@ -222,9 +232,12 @@ impl<J: ExpectedResults> WorkerPool<J> {
         teams: &mut Vec<Vec<BlockTask>>,
     ) -> Result<(), CrewFault>
         requires count { length teams.old.items ≡ self.now }
-        requires due { (bs : List BlockState) × AreTeams self.now teams.old.items bs × IsDue J.results J.program self.now cycle half rooms.now bs }
+        requires due { (bs : List BlockState) × AreTeams self.now teams.old.items bs ×
+            IsDue J.results J.program self.now cycle half rooms.now bs }
         ensures count { OnOk result (length teams.new.items ≡ self.now) }
-        ensures made { OnOk result ((bs : List BlockState) → IsDue J.results J.program self.now cycle half rooms.now bs → AreTeams self.now teams.new.items (all_after_half half rooms.now J.program bs)) }
+        ensures made { OnOk result ((bs : List BlockState) →
+            IsDue J.results J.program self.now cycle half rooms.now bs →
+            AreTeams self.now teams.new.items (all_after_half half rooms.now J.program bs)) }
     {
         self.send_teams(rt, cycle, half, rooms, teams)?;
         self.receive_teams(rt, cycle, half, teams)
@@ -240,8 +253,11 @@ impl<J: ExpectedResults> WorkerPool<J> {
         teams: &mut Vec<Vec<BlockTask>>,
     ) -> Result<(), CrewFault>
         requires count { length teams.old.items ≡ self.now }
-        requires ready { (w : ℕ) (d : _) → w < length teams.old.items → All (CanBeMade J.program half) (slice_index_or teams.old.items w d).items }
-        requires settled { (w : ℕ) (d : _) → w < length teams.old.items → map (task_after_half half rooms.now J.program) (slice_index_or teams.old.items w d).items ≡ J.results cycle half w }
+        requires ready { (w : ℕ) (d : _) → w < length teams.old.items →
+            All (CanBeMade J.program half) (slice_index_or teams.old.items w d).items }
+        requires settled { (w : ℕ) (d : _) → w < length teams.old.items →
+            map (task_after_half half rooms.now J.program)
+            (slice_index_or teams.old.items w d).items ≡ J.results cycle half w }
         ensures { OnOk result (teams.new.items ≡ []) }
     {
         let mut worker = 0;
@@ -267,7 +283,8 @@ impl<J: ExpectedResults> WorkerPool<J> {
     ) -> Result<(), CrewFault>
         requires { teams.old.items ≡ [] }
         ensures count { OnOk result (length teams.new.items ≡ self.now) }
-        ensures results { OnOk result ((w : ℕ) (d : _) → w < self.now → (slice_index_or teams.new.items w d).items ≡ J.results cycle half w) }
+        ensures results { OnOk result ((w : ℕ) (d : _) → w < self.now →
+            (slice_index_or teams.new.items w d).items ≡ J.results cycle half w) }
     {
         for worker in 0..self.threads.len() {
             let name = AssignmentName {

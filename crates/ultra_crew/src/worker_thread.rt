@@ -55,11 +55,11 @@ impl<J: ExpectedResults> Channels<J> {
 
 /// How often a thread looks for a message before it sleeps until one comes: for about the time that
 /// a half of a cycle takes.
-const LOOKS: u32 = 400;
+const MOST_POLLS: u32 = 400;
 
 /// The next message, or `None` where none can come any more.
-fn next<T: Drop, R: Wait>(rt: &R, from: &Receiver<T>) -> Option<T> {
-    for _ in 0..LOOKS {
+fn receive_next<T: Drop, R: Wait>(rt: &R, from: &Receiver<T>) -> Option<T> {
+    for _ in 0..MOST_POLLS {
         match from.try_recv(rt) {
             Ok(message) => return Some(message),
             Err(TryRecvError::Empty) => hint::spin_loop(),
@@ -73,7 +73,7 @@ impl<J: ExpectedResults> WorkerChannels<J> {
     /// What a worker does until no more assignments come.
     fn work<R: Wait, G: Gate>(self, rt: &R, gate: &G) {
         for _ in rt.forever() {
-            if !self.serve_next(rt, gate) {
+            if !self.do_next(rt, gate) {
                 return;
             }
         }
@@ -81,8 +81,8 @@ impl<J: ExpectedResults> WorkerChannels<J> {
 
     /// Does the next assignment and gives its results back. `false` says that no more can come, or
     /// that nobody takes results any more.
-    fn serve_next<R: Wait, G: Gate>(&self, rt: &R, gate: &G) -> bool {
-        match next(rt, &self.assignments) {
+    fn do_next<R: Wait, G: Gate>(&self, rt: &R, gate: &G) -> bool {
+        match receive_next(rt, &self.assignments) {
             Some(assignment) => {
                 let made = assignment.make(rt, gate);
                 self.results.send(rt, made).is_ok()
@@ -148,7 +148,8 @@ impl<J: ExpectedResults> WorkerThread<J> {
         rooms: &Rooms,
     ) -> Result<(), CrewFault>
         requires ready { All (CanBeMade J.program name.half) team.items }
-        requires settled { map (task_after_half name.half rooms.now J.program) team.items ≡ J.results name.cycle name.half name.worker }
+        requires settled { map (task_after_half name.half rooms.now J.program) team.items ≡
+            J.results name.cycle name.half name.worker }
     {
         let assignment = Assignment {
             name,
@@ -170,7 +171,7 @@ impl<J: ExpectedResults> WorkerThread<J> {
         ensures fault { IfErr result (λ e. e ≡ NoThread) }
     {
         for _ in rt.forever() {
-            let Some(results) = next(rt, &self.results) else {
+            let Some(results) = receive_next(rt, &self.results) else {
                 return Err(CrewFault::NoThread);
             };
             if results.name == name {

@@ -7,7 +7,7 @@ use Rattle.ultra_route.specs.Route.{shuffled, unshuffled}
 use Rattle.ultra_model.specs.Phases.{arrivals as arrivals_at, combinations as combinations_in, delivery, replies_made, arriving_reply, leaving_reply, replies_at_exit, next_replies, lane_after_split, delivered, reply_phase, has_reply_room, has_request_room, arriving_request, entering, leaving_request, lane_after_leaving, next_lane, request_phase, serving, memory_phase, processor_phase, cycle}
 use Rattle.ultra_model.proofs.{Capacities.after_leaving_shorter, Interfaces.can_deliver, Neighbours.next_is, Neighbours.itself, Routes.entering_well, Sound.sound-reply_phase, Sound.sound-memory_phase, Sound.sound-request_phase, Sound.sound-processor_phase}
 use Rattle.ultra_unit_steps.specs.Switches.{CanTakeReplies as SwitchCanTakeReplies, CanTakeRequests as SwitchCanTakeRequests, after_replies, first_request, after_requests, combinations_of}
-use Rattle.ultra_cycle_law.specs.{Course.deliveries, Course.combinations, Course.servings, Course.issues, Course.stops, Whole.whole, Law.CanTakeReplies, Law.CanTakeRequests, Law.CanExecute, Law.CycleLaw}
+use Rattle.ultra_cycle_law.specs.{Course.delivery_events, Course.combinations, Course.servings, Course.issues, Course.stops, Whole.whole, Law.CanTakeReplies, Law.CanTakeRequests, Law.CanExecute, Law.CycleLaw}
 use Rattle.ultra_cycle_law.proofs.AtFrame.{at_number, number_small, same_places, whole_is, whole_alike, lane_is, replies_is, memory_module_is, element_is, size_is, regroup}
 use Rattle.ultra_mem.proofs.Cells.{length-serve}
 
@@ -109,8 +109,8 @@ module _ (c : Settings) (n : ℕ) (f : Frame) (events : List Event) (faults : Li
     replies_after s y hs hy =
         grind (arith, made_at s y 0 hs hy, made_at s y 1 hs hy, replies_is, replies_leave s y hs hy, made_with as_sent reply_comes (λ s k. after_replies d s) s (y / 2) hs (omega (arith, two)))
 
-    pub replied : (h : Frame) → AreAlike d h (takes_replies d sent) → IsFrameOf c n h (deliveries d sent) [] (reply_phase c before)
-    unfolding reply_phase whole deliveries
+    pub replied : (h : Frame) → AreAlike d h (takes_replies d sent) → IsFrameOf c n h (delivery_events d sent) [] (reply_phase c before)
+    unfolding reply_phase whole delivery_events
     replied h a =
         becomes n (sound-reply_phase c w.range) (grind arith)
         (whole_is c (takes_replies d sent) n _ _ lane_after_replies replies_after (λ k hk. grind (arith, module_sends k hk, memory_module_is c f n events faults k hk)) (λ p hp. grind (arith, comes_home p hp, element_is c f n events faults p hp)) (ap present (same_places (size c) _ _ (λ p hp. ap delivery (comes_home p hp)))) refl) a

@@ -58,8 +58,8 @@ module _ (d : ℕ) where
     replies = λ l. None;
   }
 
-  unfoldable pub deliveries : Frame → List Event
-  deliveries f = present (places (2 ^ d) (λ p. delivery (reply_to f p)))
+  unfoldable pub delivery_events : Frame → List Event
+  delivery_events f = present (places (2 ^ d) (λ p. delivery (reply_to f p)))
 
   -- ---- memory
   abbrev pub serves : Frame → Frame

@@ -68,7 +68,7 @@ pub record IsCycled (c : Settings) (n : ℕ) (program : List Instr)
   -- position and arrival, issues by processing element
   pub machine :
       IsFrameOf c (n + 1) x.steps_made
-      (half.deliveries c.stages x.replies_sent
+      (half.delivery_events c.stages x.replies_sent
       ++ half.servings c.stages x.replies_taken
       ++ half.combinations c.stages n x.requests_sent
       ++ half.issues c.stages program x.requests_taken)

@@ -15,7 +15,7 @@ use std::alloc::Global;
 use std::env::Env;
 use std::process::ExitCode;
 use std::{env, io};
-use ultra_inputs::{Failure, Inputs, give_up, no_words, read_inputs};
+use ultra_inputs::{Failure, Inputs, failure_of_arguments, read_inputs, report_failure};
 use ultra_io::{FileSource, Source, Stream};
 use ultra_msg::{Sink, write_all};
 use ultra_trace_alone::{RunFault, run_alone};
@@ -33,9 +33,11 @@ fn run<'p, F: Source, O: Sink>(
     out: &mut O,
 ) -> Result<(), Failure<'p>>
     ensures ok { OnOk result (WroteText trace settings_path.now program_path.now
-        (traffic (F.files source.old) (O.taken out.old)) (traffic (F.files source.new) (O.taken out.new))) }
+        (traffic (F.files source.old) (O.taken out.old))
+        (traffic (F.files source.new) (O.taken out.new))) }
     ensures err { IfErr result (TextFails trace IsStopped settings_path.now program_path.now
-        (traffic (F.files source.old) (O.taken out.old)) (traffic (F.files source.new) (O.taken out.new))) }
+        (traffic (F.files source.old) (O.taken out.old))
+        (traffic (F.files source.new) (O.taken out.new))) }
     ensures read_still { OnOk result (F.failures source.new ≡ F.failures source.old) }
     ensures read_counted { IfErr result
         (λ f. F.failures source.new ≡ F.failures source.old + read_failures f) }
@@ -65,7 +67,8 @@ fn failure_of_run<'p>(fault: RunFault) -> Failure<'p>
 fn show_usage<E: Sink>(err: &mut E) -> u8
     ensures status { result ≡ 2 }
     ensures prefix { TakesPrefix usage (E.taken err.old) (E.taken err.new) }
-    ensures whole { E.failures err.new ≡ E.failures err.old → E.taken err.new ≡ E.taken err.old ++ usage }
+    ensures whole { E.failures err.new ≡ E.failures err.old →
+        E.taken err.new ≡ E.taken err.old ++ usage }
 {
     let _ = write_all(err, b"usage: ultra_first_run CONF PROG\n");
     2
@@ -86,21 +89,23 @@ fn run_words<F: Source, O: Sink, E: Sink>(
     ensures counted { O.failures out.new ≡ O.failures out.old + status_failures result }
     ensures read_still { result ≢ 3 → F.failures source.new ≡ F.failures source.old }
     ensures ended { HasEndedFirstRun (map string_bytes words.now)
-        (traffic (F.files source.old) (O.taken out.old)) (traffic (F.files source.new) (O.taken out.new))
-        (stream (E.taken err.old) (E.failures err.old)) (stream (E.taken err.new) (E.failures err.new))
-        (F.failures source.old) (F.failures source.new) result }
+        (traffic (F.files source.old) (O.taken out.old))
+        (traffic (F.files source.new) (O.taken out.new))
+        (stream (E.taken err.old) (E.failures err.old))
+        (stream (E.taken err.new) (E.failures err.new)) (F.failures source.old)
+        (F.failures source.new) result }
 {
     let [_, settings, program] = words else {
         return show_usage(err);
     };
     match run(alloc, settings.as_str(), program.as_str(), source, out) {
         Ok(()) => 0,
-        Err(failure) => give_up(&failure, err),
+        Err(failure) => report_failure(&failure, err),
     }
 }
 
-/// Calls `run_words` with the words that the program was called with. An error says that the words
-/// couldn't be had; nothing is read or written then.
+/// Calls `run_words` with the arguments of the program. An error says that the arguments couldn't
+/// be read; nothing is read or written then.
 fn start<R: AllocGlobal + Env, F: Source, O: Sink, E: Sink>(
     rt: &R,
     source: &mut F,
@@ -113,11 +118,13 @@ fn start<R: AllocGlobal + Env, F: Source, O: Sink, E: Sink>(
         (λ s. O.failures out.new ≡ O.failures out.old + status_failures s) }
     ensures read_still { IfOk result (λ s. s ≢ 3 →
         F.failures source.new ≡ F.failures source.old) }
-    ensures ended { IfOk result (λ s. (words : List (List ℕ)) × HasEndedFirstRun words
-        (traffic (F.files source.old) (O.taken out.old)) (traffic (F.files source.new) (O.taken out.new))
-        (stream (E.taken err.old) (E.failures err.old)) (stream (E.taken err.new) (E.failures err.new))
-        (F.failures source.old) (F.failures source.new) s) }
-    ensures no_words { OnErr result (O.taken out.new ≡ O.taken out.old) }
+    ensures ended { IfOk result (λ s. (words : List (List ℕ)) ×
+        HasEndedFirstRun words (traffic (F.files source.old) (O.taken out.old))
+        (traffic (F.files source.new) (O.taken out.new))
+        (stream (E.taken err.old) (E.failures err.old))
+        (stream (E.taken err.new) (E.failures err.new)) (F.failures source.old)
+        (F.failures source.new) s) }
+    ensures unread_arguments { OnErr result (O.taken out.new ≡ O.taken out.old) }
     ensures no_word_of_it { OnErr result (E.taken err.new ≡ E.taken err.old) }
     ensures no_file { OnErr result (F.files source.new ≡ F.files source.old) }
     ensures no_unread_file { OnErr result (F.failures source.new ≡ F.failures source.old) }
@@ -132,7 +139,7 @@ fn main(rt: HostRuntime) -> ExitCode {
     let mut err = Stream::new(rt.stderr());
     let status = match start(&rt, &mut source, &mut out, &mut err) {
         Ok(status) => status,
-        Err(error) => give_up(&no_words(&error), &mut err),
+        Err(error) => report_failure(&failure_of_arguments(&error), &mut err),
     };
     ExitCode::from(status)
 }

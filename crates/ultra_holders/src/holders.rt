@@ -16,7 +16,7 @@ pub struct Holders<'a> {
     units: &'a UnitSet,
     // the number of the kind's first unit among all units
     base: u32,
-    // of those that are left the ones in a word: bit i says it of number `from + i`
+    // what is left of one word: bit i stands for number `from + i`
     bits: u64,
     from: u16,
     // and the others: from number `next` on, below `end`
@@ -58,7 +58,8 @@ impl Holders<'_> {
         requires { self.old.bits ≡ 0 }
         ensures some { result ≡ true → 0 < self.new.bits }
         ensures same { result ≡ true → holders_left self.new ≡ holders_left self.old }
-        ensures none { result ≡ false → (holders_left self.old ≡ []) × (holders_left self.new ≡ []) }
+        ensures none { result ≡ false →
+            (holders_left self.old ≡ []) × (holders_left self.new ≡ []) }
     {
         if self.next >= self.end {
             return false;
@@ -95,7 +96,8 @@ pub fn switches_in<const SMALL: bool>(net: Net, units: &UnitSet) -> Holders<'_>
 pub fn switches_of<const SMALL: bool>(net: Net, units: &UnitSet, stage: u32) -> Holders<'_>
     requires stage { stage < net }
     requires small { SMALL ≡ true → IsSmall net }
-    ensures { holders_left result ≡ numbers_in units.now (number_of_switch net stage 0) (2 ^ (net - 1)) }
+    ensures { holders_left result ≡
+        numbers_in units.now (number_of_switch net stage 0) (2 ^ (net - 1)) }
 {
     numbered_from::<SMALL>(units, switch_number(net, stage, 0), net.size() as usize / 2)
 }
@@ -152,12 +154,13 @@ fn numbered_from<const SMALL: bool>(units: &UnitSet, base: usize, count: usize) 
 }
 
 /// Of the `count` units from number `from` on, those that are in a set and in the same word as
-/// `from`. Bit i says it of unit `from + i`.
+/// `from`. Bit i stands for unit `from + i`.
 #[inline(always)]
 fn bits_below<const SMALL: bool>(units: &UnitSet, from: usize, count: usize) -> u64
     requires small { SMALL ≡ true → count < 64 }
     requires within { from < MOST_UNITS }
-    ensures { AreBits (λ k. nat_lt k (from + count) && has_unit units.now k) from (word_end from) result }
+    ensures { AreBits (λ k. nat_lt k (from + count) && has_unit units.now k) from
+        (word_end from) result }
 {
     let bits = units.rest_of_word(from);
     if SMALL || count < 64 {

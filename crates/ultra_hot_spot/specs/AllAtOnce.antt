@@ -35,17 +35,18 @@ pub record AreAllAt (c : Settings) (a : ℕ) (m : Machine) : Type 0 where
 
 module _ (c : Settings) (program : List Instr) (n a : ℕ) where
   -- what happens in the cycle that is k after cycle n
-  abbrev pub events_of : ℕ → List Event
-  events_of k = (after c program (n + k + 1)).events
+  abbrev pub later_events : ℕ → List Event
+  later_events k = (after c program (n + k + 1)).events
 
   -- in the cycles from n to n + 2d + 2 the memory serves one request for the cell, in cycle n + d +
   -- 1. In the last of them each processing element is answered
   pub record AreServedAtOnce (served : Request) : Type 0 where
     pub once : (k : ℕ) → k ≤ 2 * c.stages + 2
-        → acts_on a (events_of k) ≡ (if k == c.stages + 1 then served ∷ [] else [])
+        → acts_on a (later_events k) ≡ (if k == c.stages + 1 then served ∷ [] else [])
     pub answered : (p : ℕ) → p < size c
         → (v : Reply)
-        × Contains (events_of (2 * c.stages + 2)) (Delivered record { pe = p; cell = a; reply = v })
+        × Contains (later_events (2 * c.stages + 2))
+        (Delivered record { pe = p; cell = a; reply = v })
 
 -- for all settings in their ranges with a place in each wait buffer, every program, and whenever
 -- all processing elements have asked for one cell

@@ -4,7 +4,7 @@ use Rattle.std.specs.Prelude.{List}
 use Rattle.ultra_isa.specs.declared.Instr.{Instr}
 use Rattle.ultra_model.specs.Machine.{Settings}
 use Rattle.ultra_inputs.specs.declared.failure.Failure.{Failure}
-use Rattle.ultra_inputs.specs.declared.failure.Failure.TheVariants.{Usage, NotWords, NotRead, NotToml, BadField, UnknownKey, NotUtf8, BadLine, BadJob, NotAnEntry, BadPe, NotFenced, NotLegal, BadParameter, NoMemory, NoThread, HeapFull, NotWritten}
+use Rattle.ultra_inputs.specs.declared.failure.Failure.TheVariants.{Usage, ArgumentsNotUtf8, NotRead, NotToml, BadField, UnknownKey, NotUtf8, BadProgramLine, BadJob, NotAnEntry, BadPe, NotFenced, NotLegal, BadParameter, NoMemory, NoThread, HeapFull, NotWritten}
 use Rattle.ultra_inputs.specs.Failure.{status_of, read_failures, write_failures}
 use Rattle.ultra_inputs.specs.Status.{IsStatus, IsRefusal, status_failures}
 use Rattle.ultra_inputs.specs.Traffic.{Traffic, IsStopped, TextFails, refused, stopped}
@@ -33,13 +33,13 @@ pub record Ends (f : Failure) : Type 0 where
 
 pub ends : (f : Failure) → Ends f
 ends (Usage t) = record { status = two; bad = λ e. cc; unread = λ ne. refl; written = refl }
-ends NotWords = record { status = two; bad = λ e. cc; unread = λ ne. refl; written = refl }
+ends ArgumentsNotUtf8 = record { status = two; bad = λ e. cc; unread = λ ne. refl; written = refl }
 ends (NotRead p) = record { status = three; bad = λ e. cc; unread = λ ne. absurd (ne refl); written = refl }
 ends (NotToml p) = record { status = three; bad = λ e. cc; unread = λ ne. refl; written = refl }
 ends (BadField p f) = record { status = three; bad = λ e. cc; unread = λ ne. refl; written = refl }
 ends (UnknownKey p) = record { status = three; bad = λ e. cc; unread = λ ne. refl; written = refl }
 ends (NotUtf8 p) = record { status = three; bad = λ e. cc; unread = λ ne. refl; written = refl }
-ends (BadLine p l k) = record { status = three; bad = λ e. cc; unread = λ ne. refl; written = refl }
+ends (BadProgramLine p l k) = record { status = three; bad = λ e. cc; unread = λ ne. refl; written = refl }
 ends (BadJob p) = record { status = three; bad = λ e. cc; unread = λ ne. refl; written = refl }
 ends (NotAnEntry p l) = record { status = three; bad = λ e. cc; unread = λ ne. refl; written = refl }
 ends (BadPe p l) = record { status = three; bad = λ e. cc; unread = λ ne. refl; written = refl }

@@ -6,7 +6,7 @@ use Rattle.ultra_asm.specs.declared.AsmFaultKind.{AsmFaultKind}
 use Rattle.ultra_asm.specs.declared.AsmFaultKind.TheVariants as kind
 use Rattle.ultra_model.specs.Accepted.{name_of}
 use Rattle.ultra_inputs.specs.declared.failure.Failure.{Failure}
-use Rattle.ultra_inputs.specs.declared.failure.Failure.TheVariants.{Usage, NotWords, NotRead, NotToml, BadField, UnknownKey, NotUtf8, BadLine, BadJob, NotAnEntry, BadPe, NotFenced, NotLegal, BadParameter, NoMemory, NoThread, HeapFull, NotWritten}
+use Rattle.ultra_inputs.specs.declared.failure.Failure.TheVariants.{Usage, ArgumentsNotUtf8, NotRead, NotToml, BadField, UnknownKey, NotUtf8, BadProgramLine, BadJob, NotAnEntry, BadPe, NotFenced, NotLegal, BadParameter, NoMemory, NoThread, HeapFull, NotWritten}
 
 -- what is wrong in a line of a program
 abbrev pub kind_text : AsmFaultKind → List ℕ
@@ -22,13 +22,13 @@ kind_text kind.WrongOperands = codes "wrong operands"
 -- the status of the program
 abbrev pub status_of : Failure → ℕ
 status_of (Usage t) = 2
-status_of NotWords = 2
+status_of ArgumentsNotUtf8 = 2
 status_of (NotRead p) = 3
 status_of (NotToml p) = 3
 status_of (BadField p f) = 3
 status_of (UnknownKey p) = 3
 status_of (NotUtf8 p) = 3
-status_of (BadLine p l k) = 3
+status_of (BadProgramLine p l k) = 3
 status_of (BadJob p) = 3
 status_of (NotAnEntry p l) = 3
 status_of (BadPe p l) = 3
@@ -60,20 +60,20 @@ line_fault_text path l what =
     path_text path ++ codes "line " ++ decimal l ++ codes ": " ++ what ++ codes "\n"
 
 -- why the arguments couldn't be had, by the kind of the error
-abbrev pub failure_of_words : ErrorKind → Failure
-failure_of_words OutOfMemory = NoMemory
-failure_of_words _ = NotWords
+abbrev pub failure_of_arguments : ErrorKind → Failure
+failure_of_arguments OutOfMemory = NoMemory
+failure_of_arguments _ = ArgumentsNotUtf8
 
 -- what goes to standard error
 abbrev pub text_of : Failure → List ℕ
 text_of (Usage t) = string_bytes t
-text_of NotWords = codes "ultra: arguments: not utf-8\n"
+text_of ArgumentsNotUtf8 = codes "ultra: arguments: not utf-8\n"
 text_of (NotRead p) = codes "ultra: cannot read " ++ p.now ++ codes "\n"
 text_of (NotToml p) = path_text p.now ++ codes "not toml" ++ codes "\n"
 text_of (BadField p f) = path_text p.now ++ codes "bad " ++ name_of f ++ codes "\n"
 text_of (UnknownKey p) = path_text p.now ++ codes "unknown key" ++ codes "\n"
 text_of (NotUtf8 p) = path_text p.now ++ codes "not utf-8" ++ codes "\n"
-text_of (BadLine p l k) = line_fault_text p.now l (kind_text k)
+text_of (BadProgramLine p l k) = line_fault_text p.now l (kind_text k)
 text_of (BadJob p) = path_text p.now ++ codes "bad job" ++ codes "\n"
 text_of (NotAnEntry p l) = line_fault_text p.now l (codes "not an entry")
 text_of (BadPe p l) = line_fault_text p.now l (codes "bad pe")

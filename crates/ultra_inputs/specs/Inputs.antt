@@ -10,7 +10,7 @@ use Rattle.ultra_settings.specs.SettingsText.{Gives}
 use Rattle.ultra_asm.specs.Words.{text_words}
 use Rattle.ultra_asm.specs.ProgramText.{IsProgramText, IsFirstFault}
 use Rattle.ultra_inputs.specs.declared.failure.Failure.{Failure}
-use Rattle.ultra_inputs.specs.declared.failure.Failure.TheVariants.{NotRead, NotToml, BadField, UnknownKey, NotUtf8, BadLine, NoMemory}
+use Rattle.ultra_inputs.specs.declared.failure.Failure.TheVariants.{NotRead, NotToml, BadField, UnknownKey, NotUtf8, BadProgramLine, NoMemory}
 use Rattle.ultra_io.specs.Source.{File, file_of}
 
 -- the text of a file gives these settings, and they are accepted
@@ -42,7 +42,7 @@ ExplainsSettings path text _ = ⊥
 -- why the text of a file is no program
 abbrev pub ExplainsProgram : List ℕ → List ℕ → Failure → Type 0
 ExplainsProgram path text (NotUtf8 p) = (p.now ≡ path) × ¬ IsUtf8 text
-ExplainsProgram path text (BadLine p l k) =
+ExplainsProgram path text (BadProgramLine p l k) =
     (p.now ≡ path) × IsFirstFault (text_words text) (record { line = l; kind = k })
 ExplainsProgram path text NoMemory = ⊤
 ExplainsProgram path text _ = ⊥

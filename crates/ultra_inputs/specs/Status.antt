@@ -6,7 +6,7 @@ use Rattle.std.specs.Prelude.{◌≡◌, ℕ, ◌⊎◌, ◌==◌, if◌then◌e
 abbrev pub IsStatus : ℕ → Type 0
 IsStatus s = (s ≡ 0) ⊎ (s ≡ 1) ⊎ (s ≡ 2) ⊎ (s ≡ 3) ⊎ (s ≡ 4) ⊎ (s ≡ 5)
 
--- nothing was written: the words are no command, or an input is refused
+-- nothing was written: the arguments are no command, or an input is refused
 abbrev pub IsRefusal : ℕ → Type 0
 IsRefusal s = (s ≡ 2) ⊎ (s ≡ 3)
 

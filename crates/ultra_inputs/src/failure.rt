@@ -1,9 +1,9 @@
 //! How a command that fails ends.
 
 ghost use Rattle.std.specs.Prelude.{◌≡◌, ◌+◌, ◌++◌, codes, decimal, OnOk, OnErr};
-ghost use Rattle.ultra_msg.specs.Bytes.{TakesPrefix, Writes};
+ghost use Rattle.ultra_msg.specs.Bytes.{TakesPrefix, WritesOrFails};
 ghost use Rattle.std.specs.IoError.{error_kind};
-ghost use Rattle.ultra_inputs.specs.Failure.{failure_of_words, kind_text, path_text, status_of, text_of};
+ghost use Rattle.ultra_inputs.specs.Failure.{failure_of_arguments, kind_text, path_text, status_of, text_of};
 
 use itoa::Buffer;
 use std::alloc::AllocError;
@@ -16,10 +16,10 @@ use ultra_msg::{Sink, SinkFault, write_all, write_pieces};
 /// Why a command failed. A path is that of the file at fault, as the command names it.
 #[derive(Drop)]
 pub enum Failure<'a> {
-    /// The words are no command; the text says what is wrong with them.
+    /// Invalid arguments; the text says what is wrong with them.
     Usage(String),
-    /// The words aren't UTF-8.
-    NotWords,
+    /// An argument isn't UTF-8.
+    ArgumentsNotUtf8,
     /// The file can't be read.
     NotRead(&'a str),
     /// The settings aren't TOML.
@@ -31,7 +31,7 @@ pub enum Failure<'a> {
     /// The program isn't UTF-8.
     NotUtf8(&'a str),
     /// A line of the program has a fault. Lines count from 1.
-    BadLine {
+    BadProgramLine {
         /// The path of the program's file.
         path: &'a str,
         /// The number of the line.
@@ -71,7 +71,7 @@ pub enum Failure<'a> {
     BadParameter,
     /// Memory was refused.
     NoMemory,
-    /// A thread couldn't be started.
+    /// A thread couldn't be started, or died before finishing.
     NoThread,
     /// The heap of the combining trees is full.
     HeapFull,
@@ -98,13 +98,13 @@ impl Failure<'_> {
     {
         match self {
             Failure::NotLegal | Failure::NotFenced { .. } => 1,
-            Failure::Usage(_) | Failure::NotWords => 2,
+            Failure::Usage(_) | Failure::ArgumentsNotUtf8 => 2,
             Failure::NotRead(_)
             | Failure::NotToml(_)
             | Failure::BadField(_, _)
             | Failure::UnknownKey(_)
             | Failure::NotUtf8(_)
-            | Failure::BadLine { .. }
+            | Failure::BadProgramLine { .. }
             | Failure::BadJob(_)
             | Failure::NotAnEntry { .. }
             | Failure::BadPe { .. }
@@ -119,8 +119,8 @@ impl Failure<'_> {
     pub fn write_to<E: Sink>(&self, err: &mut E) -> Result<(), SinkFault>
         ensures ok { OnOk result (E.taken err.new ≡ E.taken err.old ++ text_of self.now) }
         ensures still { OnOk result (E.failures err.new ≡ E.failures err.old) }
-        ensures err { OnErr result (TakesPrefix (text_of self.now) (E.taken err.old)
-            (E.taken err.new)) }
+        ensures err { OnErr result
+            (TakesPrefix (text_of self.now) (E.taken err.old) (E.taken err.new)) }
         ensures counted { OnErr result (E.failures err.new ≡ E.failures err.old + 1) }
     {
         self.write_text(err)
@@ -128,18 +128,18 @@ impl Failure<'_> {
 
     /// Writes what `write_to` writes.
     fn write_text<E: Sink>(&self, err: &mut E) -> Result<(), SinkFault>
-        ensures { Writes result (text_of self.now) (E.taken err.old) (E.taken err.new)
+        ensures { WritesOrFails result (text_of self.now) (E.taken err.old) (E.taken err.new)
             (E.failures err.old) (E.failures err.new) }
     {
         match self {
             Failure::Usage(text) => write_all(err, text.as_bytes()),
-            Failure::NotWords => write_all(err, b"ultra: arguments: not utf-8\n"),
+            Failure::ArgumentsNotUtf8 => write_all(err, b"ultra: arguments: not utf-8\n"),
             Failure::NotRead(path) => write_unread(err, path),
             Failure::NotToml(path) => write_refusal(err, path, "not toml"),
             Failure::BadField(path, field) => write_bad_value(err, path, field.name()),
             Failure::UnknownKey(path) => write_refusal(err, path, "unknown key"),
             Failure::NotUtf8(path) => write_refusal(err, path, "not utf-8"),
-            Failure::BadLine { path, line, kind } => {
+            Failure::BadProgramLine { path, line, kind } => {
                 write_line_fault(err, path, *line, kind_text(*kind))
             }
             Failure::BadJob(path) => write_refusal(err, path, "bad job"),
@@ -160,7 +160,7 @@ impl Failure<'_> {
 
 /// Reports a failure on `err`, and answers its status. If `err` fails too, only the status reports
 /// it.
-pub fn give_up<E: Sink>(failure: &Failure, err: &mut E) -> u8
+pub fn report_failure<E: Sink>(failure: &Failure, err: &mut E) -> u8
     ensures status { result ≡ status_of failure.now }
     ensures prefix { TakesPrefix (text_of failure.now) (E.taken err.old) (E.taken err.new) }
     ensures whole { E.failures err.new ≡ E.failures err.old → E.taken err.new ≡ E.taken err.old ++
@@ -170,19 +170,19 @@ pub fn give_up<E: Sink>(failure: &Failure, err: &mut E) -> u8
     failure.status()
 }
 
-/// Why the words that the program was called with couldn't be had.
-pub fn no_words(error: &io::Error) -> Failure<'static>
-    ensures { result ≡ failure_of_words (error_kind error.now) }
+/// Why the arguments of the program couldn't be read.
+pub fn failure_of_arguments(error: &io::Error) -> Failure<'static>
+    ensures { result ≡ failure_of_arguments (error_kind error.now) }
 {
     match error.kind() {
         ErrorKind::OutOfMemory => Failure::NoMemory,
-        _ => Failure::NotWords,
+        _ => Failure::ArgumentsNotUtf8,
     }
 }
 
 /// Writes the line of a file that can't be read.
 fn write_unread<E: Sink>(err: &mut E, path: &str) -> Result<(), SinkFault>
-    ensures { Writes result (codes "ultra: cannot read " ++ path.now ++ codes "\n")
+    ensures { WritesOrFails result (codes "ultra: cannot read " ++ path.now ++ codes "\n")
         (E.taken err.old) (E.taken err.new) (E.failures err.old) (E.failures err.new) }
 {
     write_pieces(err, &[b"ultra: cannot read ", path.as_bytes(), b"\n"])
@@ -190,7 +190,7 @@ fn write_unread<E: Sink>(err: &mut E, path: &str) -> Result<(), SinkFault>
 
 /// Writes the line of a refused file: its path, and what is wrong with it.
 fn write_refusal<E: Sink>(err: &mut E, path: &str, what: &str) -> Result<(), SinkFault>
-    ensures { Writes result (path_text path.now ++ what.now ++ codes "\n") (E.taken err.old)
+    ensures { WritesOrFails result (path_text path.now ++ what.now ++ codes "\n") (E.taken err.old)
         (E.taken err.new) (E.failures err.old) (E.failures err.new) }
 {
     write_pieces(
@@ -201,7 +201,7 @@ fn write_refusal<E: Sink>(err: &mut E, path: &str, what: &str) -> Result<(), Sin
 
 /// Writes the line of settings with a bad value of this name.
 fn write_bad_value<E: Sink>(err: &mut E, path: &str, name: &str) -> Result<(), SinkFault>
-    ensures { Writes result (path_text path.now ++ codes "bad " ++ name.now ++ codes "\n")
+    ensures { WritesOrFails result (path_text path.now ++ codes "bad " ++ name.now ++ codes "\n")
         (E.taken err.old) (E.taken err.new) (E.failures err.old) (E.failures err.new) }
 {
     write_pieces(
@@ -224,9 +224,9 @@ fn write_line_fault<E: Sink>(
     line: usize,
     what: &str,
 ) -> Result<(), SinkFault>
-    ensures { Writes result
-        (path_text path.now ++ codes "line " ++ decimal line ++ codes ": " ++ what.now ++ codes "\n")
-        (E.taken err.old) (E.taken err.new) (E.failures err.old) (E.failures err.new) }
+    ensures { WritesOrFails result (path_text path.now ++ codes "line " ++ decimal line ++
+        codes ": " ++ what.now ++ codes "\n") (E.taken err.old) (E.taken err.new)
+        (E.failures err.old) (E.failures err.new) }
 {
     let mut digits = Buffer::new();
     write_numbered(err, path, "line ", digits.format(line), what)
@@ -234,7 +234,7 @@ fn write_line_fault<E: Sink>(
 
 /// Writes the line that names an instruction without its fence, by its number.
 fn write_unfenced<E: Sink>(err: &mut E, path: &str, instruction: usize) -> Result<(), SinkFault>
-    ensures { Writes result
+    ensures { WritesOrFails result
         (path_text path.now ++ codes "instruction " ++ decimal instruction ++ codes ": " ++
         codes "not followed by fence" ++ codes "\n")
         (E.taken err.old) (E.taken err.new) (E.failures err.old) (E.failures err.new) }
@@ -252,7 +252,7 @@ fn write_numbered<E: Sink>(
     number: &str,
     what: &str,
 ) -> Result<(), SinkFault>
-    ensures { Writes result
+    ensures { WritesOrFails result
         (path_text path.now ++ place.now ++ number.now ++ codes ": " ++ what.now ++ codes "\n")
         (E.taken err.old) (E.taken err.new) (E.failures err.old) (E.failures err.new) }
 {

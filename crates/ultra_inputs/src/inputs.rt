@@ -33,8 +33,8 @@ pub fn read_inputs<'p, F: Source>(
 ) -> Result<Inputs, Failure<'p>>
     ensures ok { IfOk result (λ inputs. Gave settings_path.now program_path.now
         (F.files source.old) (F.files source.new) inputs.config inputs.program) }
-    ensures err { IfErr result (GaveNothing settings_path.now program_path.now
-        (F.files source.old) (F.files source.new)) }
+    ensures err { IfErr result
+        (GaveNothing settings_path.now program_path.now (F.files source.old) (F.files source.new)) }
     ensures still { OnOk result (F.failures source.new ≡ F.failures source.old) }
     ensures counted { IfErr result
         (λ f. F.failures source.new ≡ F.failures source.old + read_failures f) }
@@ -50,10 +50,10 @@ fn read_settings<'p, F: Source>(
     path: &'p str,
     source: &mut F,
 ) -> Result<Config, Failure<'p>>
-    ensures ok { IfOk result (FileGave IsAccepted path.now (F.files source.old)
-        (F.files source.new)) }
-    ensures err { IfErr result (FileGaveNothing ExplainsSettings path.now (F.files source.old)
-        (F.files source.new)) }
+    ensures ok { IfOk result
+        (FileGave IsAccepted path.now (F.files source.old) (F.files source.new)) }
+    ensures err { IfErr result
+        (FileGaveNothing ExplainsSettings path.now (F.files source.old) (F.files source.new)) }
     ensures still { OnOk result (F.failures source.new ≡ F.failures source.old) }
     ensures counted { IfErr result
         (λ f. F.failures source.new ≡ F.failures source.old + read_failures f) }
@@ -69,10 +69,10 @@ pub fn read_program<'p, F: Source>(
     path: &'p str,
     source: &mut F,
 ) -> Result<Program, Failure<'p>>
-    ensures ok { IfOk result (FileGave IsProgramOf path.now (F.files source.old)
-        (F.files source.new)) }
-    ensures err { IfErr result (FileGaveNothing ExplainsProgram path.now (F.files source.old)
-        (F.files source.new)) }
+    ensures ok { IfOk result
+        (FileGave IsProgramOf path.now (F.files source.old) (F.files source.new)) }
+    ensures err { IfErr result
+        (FileGaveNothing ExplainsProgram path.now (F.files source.old) (F.files source.new)) }
     ensures still { OnOk result (F.failures source.new ≡ F.failures source.old) }
     ensures counted { IfErr result
         (λ f. F.failures source.new ≡ F.failures source.old + read_failures f) }
@@ -128,6 +128,6 @@ fn accept_program<'p>(alloc: Global, path: &'p str, bytes: &[u8]) -> Result<Prog
     match assemble(alloc, text) {
         Ok(program) => Ok(program),
         Err(fault) if fault.kind == AsmFaultKind::NoMemory => Err(Failure::NoMemory),
-        Err(AsmFault { line, kind }) => Err(Failure::BadLine { path, line, kind }),
+        Err(AsmFault { line, kind }) => Err(Failure::BadProgramLine { path, line, kind }),
     }
 }

@@ -5,5 +5,5 @@
 mod failure;
 mod inputs;
 
-pub use failure::{Failure, give_up, no_words};
+pub use failure::{Failure, failure_of_arguments, report_failure};
 pub use inputs::{Inputs, read_file, read_inputs, read_program};

@@ -1,10 +1,10 @@
 -- writing one text after another
 use Rattle.std.proofs.Common.{ℕ, ◌≡◌, ◌+◌, ◌⊎◌, inl, inr, List, [], ◌++◌, take, Bool, true, false, refl, sym, ◌∙◌, ap, subst, append_assoc, append-nil}
 use Rattle.std.specs.Prelude.{Result, Ok, Err, OnOk, OnErr, IsOk}
-use Rattle.ultra_msg.specs.Bytes.{AreTakenOrWait, IsPrefix, TakesPrefix, Writes as HasGone}
+use Rattle.ultra_msg.specs.Bytes.{AreTakenOrWait, IsPrefix, TakesPrefix, WritesOrFails as HasGone}
 use Rattle.ultra_msg.proofs.Prefixes.{prefix_more, prefix_behind, takes_more, takes_longer, takes_later, none_written, more_waits, both_written}
 use Rattle.ultra_io.specs.declared.text_buffer.TextBuffer.{TextBuffer}
-use Rattle.ultra_io.specs.TextBuffer.{State, IsSpent, Wrote, IsBlank, state_at, GoesOn, Writes}
+use Rattle.ultra_io.specs.TextBuffer.{State, StaysFailed, Wrote, IsBlank, state_at, GoesOn, Writes}
 
 pub either : (b : Bool) → (b ≡ true) ⊎ (b ≡ false)
 either true = inl refl
@@ -45,7 +45,7 @@ prefix_then a b s t u v w f h = elim (either t.failed) [
   | inr e ↦ let p = w.prefix e h in (takes_later b (v.whole e).0 p.0, p.1 ∙ ap (λ n. n + 1) (v.whole e).1)
 ]
 
-spent_then : (s t u : State) → IsSpent s t → IsSpent t u → IsSpent s u
+spent_then : (s t u : State) → StaysFailed s t → StaysFailed t u → StaysFailed s u
 spent_then s t u v w = record { failed = w.failed; taken = w.taken ∙ v.taken; failures = w.failures ∙ v.failures }
 
 pub wrote_then : (a b : List ℕ) (s t u : State) → Wrote a s t → Wrote b t u → Wrote (a ++ b) s u
@@ -99,7 +99,7 @@ at_ok (Err e) ok p = absurd cc
 pub all_taken : (bytes : List ℕ) (s t : State) → s.waiting ≡ [] → t.failed ≡ false → t.waiting ≡ [] → Wrote bytes s t → t.taken ≡ s.taken ++ bytes
 all_taken bytes s t b g e w =
     let v = (w.whole g).0 in
-    v.taken ∙ ap (λ x. s.taken ++ x) (sym (append-nil v.handed_on) ∙ rw (b, e) at v.rest)
+    v.taken ∙ ap (λ x. s.taken ++ x) (sym (append-nil v.passed_on) ∙ rw (b, e) at v.rest)
 
 pub prefix_taken_then : (bytes : List ℕ) (s t : State) → s.waiting ≡ [] → s.failed ≡ false → t.failed ≡ true → Wrote bytes s t → TakesPrefix bytes s.taken t.taken
 prefix_taken_then bytes s t b f g w = rw b at (w.prefix f g).0
@@ -108,7 +108,7 @@ prefix_taken_then bytes s t b f g w = rw b at (w.prefix f g).0
 pub part_taken : (part bytes : List ℕ) (s t : State) → s.waiting ≡ [] → t.failed ≡ false → IsPrefix part bytes → Wrote part s t → TakesPrefix bytes s.taken t.taken
 part_taken part bytes s t b f begins w =
     let v = (w.whole f).0 in
-    takes_longer begins record { part = v.handed_on; begins = (t.waiting, rw b at v.rest); taken = v.taken }
+    takes_longer begins record { part = v.passed_on; begins = (t.waiting, rw b at v.rest); taken = v.taken }
 
 -- a part of the middle, after the first bytes
 pub begins_within : (first part middle last : List ℕ) → IsPrefix part middle → IsPrefix (first ++ part) (first ++ (middle ++ last))

@@ -13,7 +13,7 @@ pub record State : Type 0 where
   pub failed : Bool
 
 -- the sink has failed, and has been left alone since
-pub record IsSpent (old new : State) : Type 0 where
+pub record StaysFailed (old new : State) : Type 0 where
   pub failed : new.failed ≡ true
   pub taken : new.taken ≡ old.taken
   pub failures : new.failures ≡ old.failures
@@ -21,7 +21,7 @@ pub record IsSpent (old new : State) : Type 0 where
 -- bytes were written. The first fault of the sink is the last: nothing is written after it, and the
 -- sink has then taken a prefix of what waited and the bytes
 pub record Wrote (bytes : List ℕ) (old new : State) : Type 0 where
-  pub spent : old.failed ≡ true → IsSpent old new
+  pub spent : old.failed ≡ true → StaysFailed old new
   pub whole : new.failed ≡ false
       → AreTakenOrWait bytes old.taken old.waiting new.taken new.waiting
       × (new.failures ≡ old.failures)

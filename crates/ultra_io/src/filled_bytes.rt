@@ -54,7 +54,8 @@ impl FilledBytes {
     #[inline(always)]
     pub(crate) fn add(&mut self, bytes: &[u8])
         requires { self.old.filled + length bytes.now ≤ BUFFER_BYTES }
-        ensures { take self.new.filled self.new.bytes ≡ take self.old.filled self.old.bytes ++ bytes.now }
+        ensures { take self.new.filled self.new.bytes ≡
+            take self.old.filled self.old.bytes ++ bytes.now }
     {
         let end = self.filled + bytes.len();
         self.bytes[self.filled..end].copy_from_slice(bytes);

@@ -9,7 +9,7 @@ use std::io::Write;
 use std::marker::Model;
 use ultra_msg::{Sink, SinkFault};
 
-/// A writer of std as a sink. It hands on each piece as it comes, and copies nothing.
+/// A writer of std as a sink. It passes each piece on at once, and copies nothing.
 #[derive(Drop)]
 pub struct Stream<W> {
     writer: W,
@@ -23,7 +23,7 @@ impl<W> Model for Stream<W> {
 }
 
 impl<W: Write> Stream<W> {
-    /// A sink that hands its bytes to `writer`; it has taken nothing yet.
+    /// A sink over `writer` that has taken nothing yet.
     pub fn new(writer: W) -> Stream<W>
         ensures { result ≡ record { taken = []; failures = 0 } }
     {
@@ -53,7 +53,7 @@ impl<W: Write> Sink for Stream<W> {
     }
 }
 
-/// Hands bytes to a writer, in one call, and answers how many it took. `None` says that it took
+/// Writes bytes by one call of the writer, and returns how many it took. `None` says that it took
 /// none, though there were some.
 fn write_some<W: Write>(writer: &mut W, bytes: &[u8]) -> Option<usize>
     ensures within { IfSome result (λ n. n ≤ length bytes.now) }

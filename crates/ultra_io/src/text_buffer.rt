@@ -17,9 +17,9 @@ pub const PART_BYTES: usize = 128;
 /// gets nothing more. A buffer takes no memory.
 ///
 /// A line is written part by part. [`begin`](TextBuffer::begin) gives the position where it begins.
-/// [`write`](TextBuffer::write) and its like take the position where it goes on, and give the one
-/// behind what they wrote. [`end`](TextBuffer::end) takes the position where it ends. Between its
-/// parts [`make_room`](TextBuffer::make_room) ensures that the next one fits.
+/// [`write`](TextBuffer::write) and similar calls take the position where it goes on, and give the
+/// one behind what they wrote. [`end`](TextBuffer::end) takes the position where it ends. Between
+/// its parts [`make_room`](TextBuffer::make_room) ensures that the next one fits.
 #[derive(Drop)]
 pub struct TextBuffer<'s, S: Sink> {
     sink: &'s mut S,

@@ -17,7 +17,7 @@ use Rattle.ultra_isa.specs.declared.Activity.TheVariants as activity
 use Rattle.ultra_isa.specs.declared.Step.{Step}
 use Rattle.ultra_isa.specs.declared.Step.TheVariants as step
 use Rattle.ultra_isa.specs.Instruction.{Site, Effect, sets, goes_on_at, refers, waits, halts, effect}
-use Rattle.ultra_isa.specs.Step.{Core, Stepped, stays, faults, refers_as, refers_where, waits_where, does, runs_where, runs, runs_as, step_of, names_awaited}
+use Rattle.ultra_isa.specs.Step.{Core, StepResult, stays, faults, refers_as, refers_where, waits_where, does, runs_where, runs, runs_as, step_of, names_awaited}
 
 -- the last of a list
 abbrev pub newest : List Request → Option Request
@@ -36,7 +36,7 @@ SendsInto s most_open i j (Some r) =
     × ((target : Option ℕ) × (j ≡ after_issue i r target Sent))
 
 -- a step of a processing element whose interface was i
-pub record IsStepFrom (s : Site) (most_open : ℕ) (i : Interface) (t : Stepped) : Type 0 where
+pub record IsStepFrom (s : Site) (most_open : ℕ) (i : Interface) (t : StepResult) : Type 0 where
   pub sent : IsSome t.sent ↔ (t.was ≡ step.Issued)
   pub newest : t.was ≡ step.Issued → t.sent ≡ newest t.interface.pending
   pub into : SendsInto s most_open i t.interface t.sent

@@ -30,14 +30,13 @@ has_stopped activity.Halted = true
 has_stopped (activity.Faulted f) = true
 
 -- what is true of every processor: it has 16 registers, and its program counter is at most the
--- length of the
--- longest program
-pub record IsPlaced (c : Core) : Type 0 where
+-- length of the longest program
+pub record IsWellFormedCore (c : Core) : Type 0 where
   pub registers : length c.registers ≡ 16
   pub pc : c.pc ≤ MOST_INSTRUCTIONS
 
 -- a processor: which one it is, and its state
-pub record Located : Type 0 where
+pub record ProcessorState : Type 0 where
   pub site : Site
   pub core : Core
 
@@ -47,16 +46,16 @@ fresh_core = record { registers = replicate 16 0; pc = 0; activity = activity.Ru
 
 -- what a step gives: the processor and its interface after it, the request that it issued, and what
 -- it was
-pub record Stepped : Type 0 where
+pub record StepResult : Type 0 where
   pub core : Core
   pub interface : Interface
   pub sent : Option Request
   pub was : Step
 
-abbrev pub stays : Step → Core → Interface → Stepped
+abbrev pub stays : Step → Core → Interface → StepResult
 stays was c i = record { core = c; interface = i; sent = None; was = was }
 
-abbrev pub faults : MachineFault → Core → Interface → Stepped
+abbrev pub faults : MachineFault → Core → Interface → StepResult
 faults f c i =
     record {
       core = record c { activity = activity.Faulted f };
@@ -70,7 +69,7 @@ abbrev pub names_awaited : Instr → Interface → Bool
 names_awaited n i = list_any (λ r. is_awaited r i.opened) (names n)
 
 -- a reference, after what has become of its request
-abbrev pub refers_as : Core → Interface → Request → Option ℕ → Issue → Stepped
+abbrev pub refers_as : Core → Interface → Request → Option ℕ → Issue → StepResult
 refers_as c i r target Sent =
     record {
       core = record c { pc = c.pc + 1 };
@@ -82,18 +81,18 @@ refers_as c i r target CellOpen = stays step.Stalled c i
 refers_as c i r target Full = stays step.Stalled c i
 
 -- a fence, where no cell is open and where one is
-abbrev pub waits_where : Bool → Core → Interface → Stepped
+abbrev pub waits_where : Bool → Core → Interface → StepResult
 waits_where true c i = stays step.Done record c { pc = c.pc + 1 } i
 waits_where false c i = stays step.Stalled c i
 
 -- the processing element, and the most cells that it may hold open
 module _ (s : Site) (most_open : ℕ) where
   -- a reference, where the memory has the cell and where it hasn't
-  abbrev pub refers_where : Bool → Core → Interface → Request → Option ℕ → Stepped
+  abbrev pub refers_where : Bool → Core → Interface → Request → Option ℕ → StepResult
   refers_where true c i r target = refers_as c i r target (issue_of most_open i r)
   refers_where false c i r target = faults AddressOutOfRange c i
 
-  abbrev pub does : Core → Interface → Effect → Stepped
+  abbrev pub does : Core → Interface → Effect → StepResult
   does c i (sets d v) =
       stays step.Done record c { registers = slice_set c.registers d v; pc = c.pc + 1 } i
   does c i (goes_on_at pc) = stays step.Done record c { pc = pc } i
@@ -103,23 +102,23 @@ module _ (s : Site) (most_open : ℕ) where
   does c i halts = stays step.Done record c { activity = activity.Halted } i
 
   -- an instruction, where it names an awaited register and where it doesn't
-  abbrev pub runs_where : Bool → Core → Interface → Instr → Stepped
+  abbrev pub runs_where : Bool → Core → Interface → Instr → StepResult
   runs_where true c i n = stays step.Stalled c i
   runs_where false c i n = does c i (effect s c.registers c.pc n)
 
   -- it stalls where the instruction names an awaited register
-  abbrev pub runs : Core → Interface → Option Instr → Stepped
+  abbrev pub runs : Core → Interface → Option Instr → StepResult
   runs c i None = faults PastEnd c i
   runs c i (Some n) = runs_where (names_awaited n i) c i n
 
   -- what has halted or faulted stays
-  abbrev pub runs_as : Activity → Core → Interface → Option Instr → Stepped
+  abbrev pub runs_as : Activity → Core → Interface → Option Instr → StepResult
   runs_as activity.Running c i n = runs c i n
   runs_as activity.Halted c i n = stays step.Halted c i
   runs_as (activity.Faulted f) c i n = stays step.Halted c i
 
   -- one step
-  abbrev pub step_of : List Instr → Core → Interface → Stepped
+  abbrev pub step_of : List Instr → Core → Interface → StepResult
   step_of program c i = runs_as c.activity c i (slice_get program c.pc)
 
 -- whether a step was a stall

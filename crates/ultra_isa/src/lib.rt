@@ -16,27 +16,27 @@ pub const MOST_INSTRUCTIONS: usize = 4096;
 /// is the index of an instruction, or the length of the program.
 #[derive(Clone, Copy, Drop)]
 pub enum Instr {
-    /// `li rd n`
+    /// `li rd n`: rd becomes n
     Set(Register, Word),
-    /// `add rd ra rb`
+    /// `add rd ra rb`: rd becomes ra plus rb, modulo `2^32`
     Add(Register, Register, Register),
-    /// `addi rd ra n`
+    /// `addi rd ra n`: rd becomes ra plus n, modulo `2^32`
     AddWord(Register, Register, Word),
-    /// `sub rd ra rb`
+    /// `sub rd ra rb`: rd becomes ra minus rb, modulo `2^32`
     Subtract(Register, Register, Register),
-    /// `and rd ra rb`
+    /// `and rd ra rb`: rd becomes the bits that are set in both
     And(Register, Register, Register),
-    /// `shr rd ra n`
+    /// `shr rd ra n`: rd becomes ra div `2^n`
     ShiftRight(Register, Register, Shift),
-    /// `slt rd ra rb`
+    /// `slt rd ra rb`: rd becomes 1 if ra is below rb as unsigned numbers, else 0
     IsBelow(Register, Register, Register),
-    /// `seq rd ra rb`
+    /// `seq rd ra rb`: rd becomes 1 if ra and rb are equal, else 0
     IsEqual(Register, Register, Register),
-    /// `jz ra label`
+    /// `jz ra label`: goes on at the label if ra is 0
     JumpIfZero(Register, u16),
-    /// `jnz ra label`
+    /// `jnz ra label`: goes on at the label if ra isn't 0
     JumpIfNotZero(Register, u16),
-    /// `jmp label`
+    /// `jmp label`: goes on at the label
     Jump(u16),
     /// `pid rd`: the processing element's number
     Number(Register),
@@ -52,7 +52,7 @@ pub enum Instr {
     Swap(Register, Register, Register),
     /// `fence`: waits until no cell is open
     Fence,
-    /// `halt`
+    /// `halt`: stops for good
     Halt,
 }
 

@@ -5,7 +5,7 @@ ghost use Rattle.std.specs.List.{list_any};
 ghost use Rattle.ultra_pni.specs.Interface.{is_awaited};
 ghost use Rattle.ultra_isa.specs.Instruction.{effect, goes_on_at, refers};
 ghost use Rattle.ultra_isa.specs.Meaning.{meaning, StaysWithin};
-ghost use Rattle.ultra_isa.specs.Step.{IsPlaced, fresh_core, is_stall, has_stopped as stopped, names_awaited, does, runs, step_of};
+ghost use Rattle.ultra_isa.specs.Step.{IsWellFormedCore, fresh_core, is_stall, has_stopped as stopped, names_awaited, does, runs, step_of};
 ghost use Rattle.ultra_isa.specs.declared.TheConstants.{MOST_INSTRUCTIONS};
 
 use crate::{Activity, Instr, MachineFault, Program, Step};
@@ -45,20 +45,26 @@ pub struct Processor {
 }
 
 impl Model for Processor {
-    ghost use Rattle.ultra_isa.specs.Step.{Located, IsPlaced};
+    ghost use Rattle.ultra_isa.specs.Step.{ProcessorState, IsWellFormedCore};
 
-    ghost Value = { Located };
+    ghost Value = { ProcessorState };
 
-    ghost view = { λ p. record { site = record { pe = p.pe; size = p.size; all_cells = p.all_cells }; core = record { registers = p.registers; pc = p.pc; activity = p.activity } } };
+    ghost view = { λ p.
+        record {
+          site = record { pe = p.pe; size = p.size; all_cells = p.all_cells };
+          core = record { registers = p.registers; pc = p.pc; activity = p.activity };
+        } };
 
-    ghost invariant = { λ p. IsPlaced record { registers = p.registers; pc = p.pc; activity = p.activity } };
+    ghost invariant = { λ p.
+        IsWellFormedCore record { registers = p.registers; pc = p.pc; activity = p.activity } };
 }
 
 /// Whether one of the three registers is awaited. Where an instruction names fewer, one of them is
 /// given again.
 #[inline(always)]
 fn awaits_one(interface: &Pni, a: Register, b: Register, c: Register) -> bool
-    ensures { result ≡ list_any (λ r. is_awaited r interface.now.interface.opened) (a ∷ b ∷ c ∷ []) }
+    ensures { result ≡
+        list_any (λ r. is_awaited r interface.now.interface.opened) (a ∷ b ∷ c ∷ []) }
 {
     !interface.awaits_none() && (interface.awaits(a) || interface.awaits(b) || interface.awaits(c))
 }
@@ -66,8 +72,9 @@ fn awaits_one(interface: &Pni, a: Register, b: Register, c: Register) -> bool
 /// The effect that sets the register `d` to the value, of an instruction that names `a` and `b`
 /// too, or `None` where one of the three is awaited.
 #[inline(always)]
-fn setting(interface: &Pni, d: Register, a: Register, b: Register, value: Word) -> Option<Effect>
-    ensures { result ≡ (if list_any (λ r. is_awaited r interface.now.interface.opened) (d ∷ a ∷ b ∷ []) then None else Some (Effect.Sets d value)) }
+fn set_effect(interface: &Pni, d: Register, a: Register, b: Register, value: Word) -> Option<Effect>
+    ensures { result ≡ (if list_any (λ r. is_awaited r interface.now.interface.opened)
+        (d ∷ a ∷ b ∷ []) then None else Some (Effect.Sets d value)) }
 {
     if awaits_one(interface, d, a, b) {
         None
@@ -77,13 +84,21 @@ fn setting(interface: &Pni, d: Register, a: Register, b: Register, value: Word) 
 }
 
 impl Processor {
-    /// The processing element of this number, in a machine of this network with `cells` cells in
-    /// each memory module. Its registers are 0, and it starts with program counter 0.
+    /// The processing element of this number, in a machine of this network with `cells` cells, 1 to
+    /// 4096, in each memory module. Its registers are 0, and it starts with program counter 0. The
+    /// number has to be below the size of the network.
     pub fn new(pe: Pe, net: Net, cells: u32) -> Processor
         requires pe { pe < 2 ^ net }
         requires some_cells { 1 ≤ cells }
         requires few_cells { cells ≤ 4096 }
-        ensures { result ≡ record { site = record { pe = pe; size = 2 ^ net; all_cells = 2 ^ net * cells }; core = fresh_core } }
+        ensures { result ≡ record {
+          site = record {
+            pe = pe;
+            size = 2 ^ net;
+            all_cells = 2 ^ net * cells;
+          };
+          core = fresh_core;
+        } }
     {
         let size = net.size();
         Processor {
@@ -101,12 +116,25 @@ impl Processor {
     /// interface.
     #[inline(always)]
     pub fn step(&mut self, program: &Program, interface: &mut Pni) -> Step
-        ensures core { self.new ≡ record self.old { core = (step_of self.old.site interface.old.most_open program.now self.old.core interface.old.interface).core } }
-        ensures interface { interface.new ≡ record interface.old { interface = (step_of self.old.site interface.old.most_open program.now self.old.core interface.old.interface).interface } }
-        ensures was { result ≡ (step_of self.old.site interface.old.most_open program.now self.old.core interface.old.interface).was }
-        ensures sent { IsSome (step_of self.old.site interface.old.most_open program.now self.old.core interface.old.interface).sent ↔ (result ≡ Step.Issued) }
-        ensures newest { result ≡ Step.Issued → (step_of self.old.site interface.old.most_open program.now self.old.core interface.old.interface).sent ≡ slice_get interface.new.interface.pending (length interface.new.interface.pending - 1) }
-        ensures own { IfSome (step_of self.old.site interface.old.most_open program.now self.old.core interface.old.interface).sent (λ r. (r.pe ≡ self.old.site.pe) × (r.cell < self.old.site.all_cells)) }
+        ensures core { self.new ≡ record self.old {
+          core = (step_of self.old.site
+              interface.old.most_open program.now self.old.core interface.old.interface).core;
+        } }
+        ensures interface { interface.new ≡
+            record interface.old {
+              interface = (step_of self.old.site interface.old.most_open
+                  program.now self.old.core interface.old.interface).interface;
+            } }
+        ensures was { result ≡ (step_of self.old.site interface.old.most_open program.now
+            self.old.core interface.old.interface).was }
+        ensures sent { IsSome (step_of self.old.site interface.old.most_open program.now
+            self.old.core interface.old.interface).sent ↔ (result ≡ Step.Issued) }
+        ensures newest { result ≡ Step.Issued → (step_of self.old.site
+            interface.old.most_open program.now self.old.core interface.old.interface).sent ≡
+            slice_get interface.new.interface.pending (length interface.new.interface.pending - 1) }
+        ensures own { IfSome (step_of self.old.site interface.old.most_open program.now
+            self.old.core interface.old.interface).sent (λ r. (r.pe ≡ self.old.site.pe) ×
+            (r.cell < self.old.site.all_cells)) }
     {
         match self.activity {
             Activity::Running => self.run(program, interface),
@@ -116,7 +144,8 @@ impl Processor {
 
     /// Whether the next step would stall: one that has halted or faulted doesn't.
     pub fn would_stall(&self, program: &Program, interface: &Pni) -> bool
-        ensures { result ≡ is_stall (step_of self.now.site interface.now.most_open program.now self.now.core interface.now.interface).was }
+        ensures { result ≡ is_stall (step_of self.now.site interface.now.most_open program.now
+            self.now.core interface.now.interface).was }
     {
         match self.activity {
             Activity::Running => self.instruction_would_stall(program, interface),
@@ -126,7 +155,11 @@ impl Processor {
 
     /// A word comes to a register.
     pub fn receive(&mut self, register: Register, value: Word)
-        ensures { self.new ≡ record self.old { core = record self.old.core { registers = slice_set self.old.core.registers register value } } }
+        ensures { self.new ≡ record self.old {
+          core = record self.old.core {
+            registers = slice_set self.old.core.registers register value;
+          };
+        } }
     {
         self.registers[register.index()] = value;
     }
@@ -142,7 +175,7 @@ impl Processor {
     /// the instruction that stopped it.
     pub fn pc(&self) -> usize
         ensures value { result ≡ self.now.core.pc }
-        ensures placed { IsPlaced self.now.core }
+        ensures placed { IsWellFormedCore self.now.core }
     {
         self.pc
     }
@@ -167,9 +200,17 @@ impl Processor {
     /// Does the instruction at the program counter, or stalls.
     #[inline(always)]
     fn run(&mut self, program: &Program, interface: &mut Pni) -> Step
-        ensures core { self.new ≡ record self.old { core = (runs self.old.site interface.old.most_open self.old.core interface.old.interface (slice_get program.now self.old.core.pc)).core } }
-        ensures interface { interface.new ≡ record interface.old { interface = (runs self.old.site interface.old.most_open self.old.core interface.old.interface (slice_get program.now self.old.core.pc)).interface } }
-        ensures was { result ≡ (runs self.old.site interface.old.most_open self.old.core interface.old.interface (slice_get program.now self.old.core.pc)).was }
+        ensures core { self.new ≡
+            record self.old {
+              core = (runs self.old.site interface.old.most_open self.old.core
+                  interface.old.interface (slice_get program.now self.old.core.pc)).core;
+            } }
+        ensures interface { interface.new ≡ record interface.old {
+          interface = (runs self.old.site interface.old.most_open self.old.core
+              interface.old.interface (slice_get program.now self.old.core.pc)).interface;
+        } }
+        ensures was { result ≡ (runs self.old.site interface.old.most_open self.old.core
+            interface.old.interface (slice_get program.now self.old.core.pc)).was }
     {
         match program.instruction(self.pc) {
             Some(instruction) => self.perform(instruction, interface),
@@ -179,7 +220,8 @@ impl Processor {
 
     /// Whether the instruction at the program counter would stall.
     fn instruction_would_stall(&self, program: &Program, interface: &Pni) -> bool
-        ensures { result ≡ is_stall (runs self.now.site interface.now.most_open self.now.core interface.now.interface (slice_get program.now self.now.core.pc)).was }
+        ensures { result ≡ is_stall (runs self.now.site interface.now.most_open self.now.core
+            interface.now.interface (slice_get program.now self.now.core.pc)).was }
     {
         match program.instruction(self.pc) {
             Some(instruction) => match self.effect_of(instruction, interface) {
@@ -192,7 +234,8 @@ impl Processor {
 
     /// Whether an instruction would stall that has this effect.
     fn effect_would_stall(&self, effect: Effect, interface: &Pni) -> bool
-        ensures { result ≡ is_stall (does self.now.site interface.now.most_open self.now.core interface.now.interface (meaning effect)).was }
+        ensures { result ≡ is_stall (does self.now.site interface.now.most_open self.now.core
+            interface.now.interface (meaning effect)).was }
     {
         match effect {
             Effect::Refers(cell, _, _) => cell < self.all_cells && interface.refuses(cell),
@@ -205,10 +248,20 @@ impl Processor {
     #[inline(always)]
     fn perform(&mut self, instruction: Instr, interface: &mut Pni) -> Step
         requires pc { self.old.core.pc < MOST_INSTRUCTIONS }
-        requires within { StaysWithin (effect self.old.site self.old.core.registers self.old.core.pc instruction) }
-        ensures core { self.new ≡ record self.old { core = (runs self.old.site interface.old.most_open self.old.core interface.old.interface (Some instruction)).core } }
-        ensures interface { interface.new ≡ record interface.old { interface = (runs self.old.site interface.old.most_open self.old.core interface.old.interface (Some instruction)).interface } }
-        ensures was { result ≡ (runs self.old.site interface.old.most_open self.old.core interface.old.interface (Some instruction)).was }
+        requires within { StaysWithin
+            (effect self.old.site self.old.core.registers self.old.core.pc instruction) }
+        ensures core { self.new ≡
+            record self.old {
+              core = (runs self.old.site interface.old.most_open self.old.core
+                  interface.old.interface (Some instruction)).core;
+            } }
+        ensures interface { interface.new ≡
+            record interface.old {
+              interface = (runs self.old.site interface.old.most_open
+                  self.old.core interface.old.interface (Some instruction)).interface;
+            } }
+        ensures was { result ≡ (runs self.old.site interface.old.most_open self.old.core
+            interface.old.interface (Some instruction)).was }
     {
         let Some(effect) = self.effect_of(instruction, interface) else {
             return Step::Stalled;
@@ -221,23 +274,36 @@ impl Processor {
     #[inline(always)]
     fn effect_of(&self, instruction: Instr, interface: &Pni) -> Option<Effect>
         ensures free { IsSome result ↔ (names_awaited instruction interface.now.interface ≡ false) }
-        ensures effect { IfSome result (λ e. meaning e ≡ effect self.now.site self.now.core.registers self.now.core.pc instruction) }
+        ensures effect { IfSome result (λ e.
+            meaning e ≡ effect self.now.site self.now.core.registers self.now.core.pc instruction) }
     {
         let word = |register: Register| self.register(register);
         match instruction {
-            Instr::Set(d, n) => setting(interface, d, d, d, n),
-            Instr::Add(d, a, b) => setting(interface, d, a, b, word(a).wrapping_add(word(b))),
-            Instr::AddWord(d, a, n) => setting(interface, d, a, a, word(a).wrapping_add(n)),
-            Instr::Subtract(d, a, b) => setting(interface, d, a, b, word(a).wrapping_sub(word(b))),
-            Instr::And(d, a, b) => setting(interface, d, a, b, word(a) & word(b)),
-            Instr::ShiftRight(d, a, n) => setting(interface, d, a, a, word(a) >> n.bits()),
-            Instr::IsBelow(d, a, b) => setting(interface, d, a, b, u32::from(word(a) < word(b))),
-            Instr::IsEqual(d, a, b) => setting(interface, d, a, b, u32::from(word(a) == word(b))),
+            Instr::Set(d, n) => set_effect(interface, d, d, d, n),
+            Instr::Add(d, a, b) => set_effect(interface, d, a, b, word(a).wrapping_add(word(b))),
+            Instr::AddWord(d, a, n) => set_effect(interface, d, a, a, word(a).wrapping_add(n)),
+            Instr::Subtract(d, a, b) => set_effect(
+                interface,
+                d,
+                a,
+                b,
+                word(a).wrapping_sub(word(b)),
+            ),
+            Instr::And(d, a, b) => set_effect(interface, d, a, b, word(a) & word(b)),
+            Instr::ShiftRight(d, a, n) => set_effect(interface, d, a, a, word(a) >> n.bits()),
+            Instr::IsBelow(d, a, b) => set_effect(interface, d, a, b, u32::from(word(a) < word(b))),
+            Instr::IsEqual(d, a, b) => set_effect(
+                interface,
+                d,
+                a,
+                b,
+                u32::from(word(a) == word(b)),
+            ),
             Instr::JumpIfZero(a, target) => self.branch(interface, a, word(a) == 0, target),
             Instr::JumpIfNotZero(a, target) => self.branch(interface, a, word(a) != 0, target),
             Instr::Jump(target) => Some(Effect::GoesOnAt(target as usize)),
-            Instr::Number(d) => setting(interface, d, d, d, self.pe),
-            Instr::Size(d) => setting(interface, d, d, d, self.size),
+            Instr::Number(d) => set_effect(interface, d, d, d, self.pe),
+            Instr::Size(d) => set_effect(interface, d, d, d, self.size),
             Instr::Load(d, a) => self.reference(interface, d, a, a, Op::Load, Some(d)),
             Instr::Store(a, b) => self.reference(interface, a, a, b, Op::Store(word(b)), None),
             Instr::Faa(d, a, b) => self.reference(interface, d, a, b, Op::Faa(word(b)), Some(d)),
@@ -252,7 +318,8 @@ impl Processor {
     #[inline(always)]
     fn branch(&self, interface: &Pni, a: Register, taken: bool, target: u16) -> Option<Effect>
         ensures free { IsSome result ↔ (is_awaited a interface.now.interface.opened ≡ false) }
-        ensures effect { IfSome result (λ e. meaning e ≡ goes_on_at (if taken then target else self.now.core.pc + 1)) }
+        ensures effect { IfSome result (λ e.
+            meaning e ≡ goes_on_at (if taken then target else self.now.core.pc + 1)) }
     {
         if awaits_one(interface, a, a, a) {
             None
@@ -275,7 +342,9 @@ impl Processor {
         op: Op,
         target: Option<Register>,
     ) -> Option<Effect>
-        ensures { result ≡ (if list_any (λ r. is_awaited r interface.now.interface.opened) (d ∷ a ∷ b ∷ []) then None else Some (Effect.Refers (slice_index self.now.core.registers a) op target)) }
+        ensures { result ≡
+            (if list_any (λ r. is_awaited r interface.now.interface.opened) (d ∷ a ∷ b ∷ []) then
+            None else Some (Effect.Refers (slice_index self.now.core.registers a) op target)) }
     {
         if awaits_one(interface, d, a, b) {
             None
@@ -289,9 +358,17 @@ impl Processor {
     fn apply(&mut self, effect: Effect, interface: &mut Pni) -> Step
         requires pc { self.old.core.pc < MOST_INSTRUCTIONS }
         requires within { StaysWithin (meaning effect) }
-        ensures core { self.new ≡ record self.old { core = (does self.old.site interface.old.most_open self.old.core interface.old.interface (meaning effect)).core } }
-        ensures interface { interface.new ≡ record interface.old { interface = (does self.old.site interface.old.most_open self.old.core interface.old.interface (meaning effect)).interface } }
-        ensures was { result ≡ (does self.old.site interface.old.most_open self.old.core interface.old.interface (meaning effect)).was }
+        ensures core { self.new ≡ record self.old {
+          core = (does self.old.site
+              interface.old.most_open self.old.core interface.old.interface (meaning effect)).core;
+        } }
+        ensures interface { interface.new ≡
+            record interface.old {
+              interface = (does self.old.site interface.old.most_open
+                  self.old.core interface.old.interface (meaning effect)).interface;
+            } }
+        ensures was { result ≡ (does self.old.site interface.old.most_open self.old.core
+            interface.old.interface (meaning effect)).was }
     {
         match effect {
             Effect::Sets(register, value) => {
@@ -324,9 +401,18 @@ impl Processor {
     #[inline(always)]
     fn refer(&mut self, cell: Cell, op: Op, target: Option<Register>, interface: &mut Pni) -> Step
         requires { self.old.core.pc < MOST_INSTRUCTIONS }
-        ensures core { self.new ≡ record self.old { core = (does self.old.site interface.old.most_open self.old.core interface.old.interface (refers cell op target)).core } }
-        ensures interface { interface.new ≡ record interface.old { interface = (does self.old.site interface.old.most_open self.old.core interface.old.interface (refers cell op target)).interface } }
-        ensures was { result ≡ (does self.old.site interface.old.most_open self.old.core interface.old.interface (refers cell op target)).was }
+        ensures core { self.new ≡
+            record self.old {
+              core = (does self.old.site interface.old.most_open self.old.core
+                  interface.old.interface (refers cell op target)).core;
+            } }
+        ensures interface { interface.new ≡
+            record interface.old {
+              interface = (does self.old.site interface.old.most_open
+                  self.old.core interface.old.interface (refers cell op target)).interface;
+            } }
+        ensures was { result ≡ (does self.old.site interface.old.most_open self.old.core
+            interface.old.interface (refers cell op target)).was }
     {
         if cell >= self.all_cells {
             return self.fault(MachineFault::AddressOutOfRange);
@@ -348,14 +434,16 @@ impl Processor {
     /// Goes on at the next instruction.
     fn advance(&mut self)
         requires { self.old.core.pc < MOST_INSTRUCTIONS }
-        ensures { self.new ≡ record self.old { core = record self.old.core { pc = self.old.core.pc + 1 } } }
+        ensures { self.new ≡
+            record self.old { core = record self.old.core { pc = self.old.core.pc + 1 } } }
     {
         self.pc += 1;
     }
 
     /// Stops for good.
     fn fault(&mut self, fault: MachineFault) -> Step
-        ensures core { self.new ≡ record self.old { core = record self.old.core { activity = Activity.Faulted fault } } }
+        ensures core { self.new ≡
+            record self.old { core = record self.old.core { activity = Activity.Faulted fault } } }
         ensures was { result ≡ Step.Fault fault }
     {
         self.activity = Activity::Faulted(fault);

@@ -96,7 +96,8 @@ impl OpenTable {
     /// The table before the first cycle of a run: no request is open. An error says that memory was
     /// refused.
     pub fn new(alloc: Global, config: &Config) -> Result<OpenTable, AllocError>
-        ensures { IfOk result (λ t. (program : List Instr) → t.rows.items ≡ open_rows config.now program 0) }
+        ensures { IfOk result (λ t. (program : List Instr) →
+            t.rows.items ≡ open_rows config.now program 0) }
     {
         let mut rows = Vec::new(alloc);
         for _ in 0..config.net().size() {
@@ -121,7 +122,8 @@ impl OpenTable {
         self.rows[pe as usize].request(cell)
     }
 
-    /// The events of a cycle happened. The latencies of its deliveries come to those that are kept.
+    /// Updates the open requests by the events of a cycle, and adds the latencies of its deliveries
+    /// to `latencies`.
     #[inline(always)]
     pub fn note_events(&mut self, events: &[Event], cycle: u32, latencies: &mut Latencies)
         requires places { HavePlaces cycle self.old.rows.items events.now }
@@ -129,7 +131,8 @@ impl OpenTable {
         requires small { AreSmall latencies.old }
         requires room { latencies.old.count + length events.now < 2 ^ 32 }
         ensures rows { self.new.rows.items ≡ rows_after cycle self.old.rows.items events.now }
-        ensures summary { (xs : List ℕ) → AreSummedUp xs latencies.old → AreSummedUp (xs ++ latencies_along cycle self.old.rows.items events.now) latencies.new }
+        ensures summary { (xs : List ℕ) → AreSummedUp xs latencies.old →
+            AreSummedUp (xs ++ latencies_along cycle self.old.rows.items events.now) latencies.new }
         ensures small { AreSmall latencies.new }
     {
         for event in events {
@@ -139,7 +142,7 @@ impl OpenTable {
         }
     }
 
-    /// An event of a cycle happened. Gives the request that a delivery answers.
+    /// Updates the open requests by an event of a cycle. Gives the request that a delivery answers.
     pub fn note(&mut self, event: &Event, cycle: u32) -> Option<OpenRequest>
         requires { HasPlace self.old.rows.items event.now }
         ensures rows { self.new.rows.items ≡ rows_with cycle self.old.rows.items event.now }

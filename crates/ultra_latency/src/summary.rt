@@ -17,7 +17,7 @@ pub struct Latencies {
 }
 
 impl Latencies {
-    /// Of none.
+    /// The summary of no latencies.
     pub fn new() -> Latencies
         ensures summary { AreSummedUp [] result }
         ensures small { AreSmall result }
@@ -31,12 +31,13 @@ impl Latencies {
         }
     }
 
-    /// One latency more, if there is one.
+    /// Adds a latency, if there is one.
     pub fn add(&mut self, latency: Option<u32>)
         requires latency { IfSome latency (λ l. l ≤ 2 ^ 20) }
         requires small { AreSmall self.old }
         requires room { self.old.count < 2 ^ 32 - 1 }
-        ensures summary { (xs : List ℕ) → AreSummedUp xs self.old → AreSummedUp (xs ++ option_to_list latency) self.new }
+        ensures summary { (xs : List ℕ) → AreSummedUp xs self.old →
+            AreSummedUp (xs ++ option_to_list latency) self.new }
         ensures small { AreSmall self.new }
         ensures one { self.new.count ≤ self.old.count + 1 }
     {

@@ -71,4 +71,7 @@ entry_at text =
     read_on (number_at r1) (λ number. read_on (rest_after (codes " ") number.1) (λ r2.
     read_on (operation_at r2) (λ op. read_on (rest_after (codes " = ") op.2) (λ r3.
     read_on (reply_at r3) (λ reply. read_on (end_at reply.1) (λ rest.
-    Some (record { pe = pe.0; number = number.0; cell = op.1; op = op.0; reply = reply.0 }, rest)))))))))
+    Some (
+      record { pe = pe.0; number = number.0; cell = op.1; op = op.0; reply = reply.0 },
+      rest,
+    )))))))))

@@ -1,10 +1,11 @@
-//! The whole machine.
+//! The whole machine. It is the 1983 paper's; its timing, sizes and limits are this project's
+//! profile.
 
 ghost use Rattle.std.specs.Prelude.{◌≡◌, ◌-◌, ◌^◌, ◌<◌, ◌↔◌, true, false, IfOk, OnOk, IfErr};
 ghost use Rattle.ultra_model.specs.{Machine.start, Machine.is_quiet as quiet, Machine.lane_at, Machine.replies_at, Machine.module_at, Machine.element_at, Machine.site, Phases.cycle as next_cycle};
 ghost use Rattle.ultra_unit_steps.specs.Elements.{element_of};
 ghost use Rattle.ultra_block.specs.{Cut.is_partition, Dealt.IsLastNamed};
-ghost use Rattle.ultra_machine.specs.Running.{Running};
+ghost use Rattle.ultra_machine.specs.MachineState.{MachineState};
 
 use std::alloc::{AllocError, Global};
 use std::marker::Model;
@@ -25,9 +26,13 @@ pub struct Machine {
 }
 
 impl Model for Machine {
-    ghost Value = { Running };
+    ghost Value = { MachineState };
 
-    ghost view = { λ m. record { settings = m.blocks.config; program = m.blocks.program; state = m.blocks.machine } };
+    ghost view = { λ m. record {
+      settings = m.blocks.config;
+      program = m.blocks.program;
+      state = m.blocks.machine;
+    } };
 
     ghost invariant = { λ m. m.blocks.count ≡ 1 };
 }
@@ -38,7 +43,8 @@ impl Machine {
     ///
     /// It keeps its own copies. An error says that memory was refused.
     pub fn new(alloc: Global, config: &Config, program: &Program) -> Result<Machine, AllocError>
-        ensures { IfOk result (λ m. m ≡ record { settings = config.now; program = program.now; state = start config.now }) }
+        ensures { IfOk result (λ m.
+            m ≡ record { settings = config.now; program = program.now; state = start config.now }) }
     {
         let blocks = Blocks::in_one_block(alloc, config, program)?;
         Ok(Machine { blocks })
@@ -50,7 +56,9 @@ impl Machine {
     /// The count of cycles has to be below `2^32 - 1`.
     pub fn cycle(&mut self)
         requires { self.old.state.cycles < 2 ^ 32 - 1 }
-        ensures { self.new ≡ record self.old { state = next_cycle self.old.settings self.old.program self.old.state } }
+        ensures { self.new ≡ record self.old {
+          state = next_cycle self.old.settings self.old.program self.old.state;
+        } }
     {
         self.blocks.cycle();
     }
@@ -66,10 +74,18 @@ impl Machine {
         alloc: Global,
         partition: &[u8],
     ) -> Result<Blocks, (Machine, PartitionFault)>
-        ensures state { IfOk result (λ b. b ≡ record { config = self.settings; program = self.program; partition = partition.now; count = b.count; machine = self.state }) }
+        ensures state { IfOk result (λ b. b ≡ record {
+          config = self.settings;
+          program =
+              self.program;
+          partition = partition.now;
+          count = b.count;
+          machine = self.state;
+        }) }
         ensures count { IfOk result (λ b. IsLastNamed partition.now b.count) }
         ensures accepted { OnOk result (is_partition self.settings partition.now ≡ true) }
-        ensures refused { IfErr result (λ e. (e.1 ≡ PartitionFault.BadPartition) ↔ (is_partition self.settings partition.now ≡ false)) }
+        ensures refused { IfErr result (λ e. (e.1 ≡ PartitionFault.BadPartition) ↔
+            (is_partition self.settings partition.now ≡ false)) }
         ensures given_back { IfErr result (λ e. e.0 ≡ self) }
     {
         match self.blocks.recut(alloc, partition) {
@@ -107,8 +123,9 @@ impl Machine {
         self.blocks.stops_of_one()
     }
 
-    /// The queue toward memory at a memory-side position of a stage, with its wait buffer. Stages
-    /// count from 0, positions too.
+    /// The queue toward memory at a memory-side position of a stage, with its wait buffer. Both are
+    /// counted from 0: the stage is below the number of stages, the position below that of
+    /// processing elements.
     pub fn lane(&self, stage: u32, position: u32) -> &ToMm
         requires stage { stage < self.now.settings.stages }
         requires position { position < 2 ^ self.now.settings.stages }
@@ -119,7 +136,9 @@ impl Machine {
         self.blocks.lane(stage, position)
     }
 
-    /// The queue toward the processing elements at a PE-side position of a stage.
+    /// The queue toward the processing elements at a PE-side position of a stage. Both are counted
+    /// from 0: the stage is below the number of stages, the position below that of processing
+    /// elements.
     pub fn reply_queue(&self, stage: u32, position: u32) -> &ToPe
         requires stage { stage < self.now.settings.stages }
         requires position { position < 2 ^ self.now.settings.stages }
@@ -129,7 +148,7 @@ impl Machine {
         self.blocks.reply_queue(stage, position)
     }
 
-    /// A memory module, by its number.
+    /// A memory module, by its number from 0. There are as many as processing elements.
     pub fn memory_module(&self, number: u32) -> &Module
         requires { number < 2 ^ self.now.settings.stages }
         ensures { result.now ≡ module_at self.now.state number }
@@ -137,7 +156,7 @@ impl Machine {
         self.blocks.memory_module(number)
     }
 
-    /// A processing element, by its number.
+    /// A processing element, by its number from 0.
     pub fn element(&self, pe: Pe) -> &ProcessingElement
         requires { pe < 2 ^ self.now.settings.stages }
         ensures state { element_of result.now ≡ element_at self.now.state pe }

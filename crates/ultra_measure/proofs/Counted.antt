@@ -1,4 +1,4 @@
--- sums and mosts by a walk over the units of a kind that are in a set
+-- sums and maxima by a walk over the units of a kind that are in a set
 use Rattle.std.proofs.Common.{ℕ, suc, ◌≡◌, ◌+◌, ◌*◌, ◌<◌, ◌≤◌, List, [], ◌∷◌, ◌++◌, length, max, refl, sym, ◌∙◌, ap, arith, append-nil, append_assoc, length-append}
 use Rattle.ultra_topology.specs.Set.{has_unit}
 use Rattle.ultra_holders.specs.Holders.{numbers_in}

@@ -10,7 +10,7 @@ use Rattle.ultra_block.specs.Held.TheVariants.{Reply, Request, Record}
 use Rattle.ultra_block.specs.{IsSetOf}
 use Rattle.ultra_block.specs.Holding.{holds}
 use Rattle.ultra_block.proofs.NothingHeld.{no_replies, no_requests, no_records}
-use Rattle.ultra_measure.specs.Held.{held_at, full_at, is_full, places_for}
+use Rattle.ultra_measure.specs.Held.{held_at, full_at, is_full, wait_places_of}
 use Rattle.ultra_holders.specs.Holders.{numbers_in}
 use Rattle.ultra_measure.specs.Window.{greatest}
 use Rattle.ultra_measure.proofs.Gathered.{added, topmost, added_pairs, topmost_pairs}
@@ -46,4 +46,4 @@ module _ (d : ℕ) (m : Machine) (s : ℕ) (hs : s < d) (even : 2 ^ d ≡ 2 * 2 
 
     -- what holds nothing isn't full
     pub stage_full : (c : Settings) → added (λ k. full_at c held s m (2 * k) + full_at c held s m (2 * k + 1)) all ≡ total (2 ^ d) (full_at c held s m)
-    stage_full c = added_pairs (λ k. has_unit units (switch_number d s 0 + k)) (2 ^ (d - 1)) (2 ^ d) (full_at c held s m) even (λ k hk none. let zeros = both_zero_in k hk none in omega (arith, none_full (places_for c held) zeros.0, none_full (places_for c held) zeros.1))
+    stage_full c = added_pairs (λ k. has_unit units (switch_number d s 0 + k)) (2 ^ (d - 1)) (2 ^ d) (full_at c held s m) even (λ k hk none. let zeros = both_zero_in k hk none in omega (arith, none_full (wait_places_of c held) zeros.0, none_full (wait_places_of c held) zeros.1))

@@ -1,4 +1,4 @@
--- sums and mosts: of the numbers below a bound, and of a list of numbers
+-- sums and maxima: of the numbers below a bound, and of a list of numbers
 use Rattle.std.proofs.Common.{ℕ, zero, suc, ◌≡◌, ◌+◌, ◌*◌, ◌<◌, List, [], ◌∷◌, ◌++◌, Bool, false, max, refl, sym, ◌∙◌, ap, arith}
 use Rattle.std.specs.List.{filter, range_with_len}
 use Rattle.ultra_model.specs.Balance.{total}
@@ -64,7 +64,7 @@ module _ (op : ℕ → ℕ → ℕ) where
         let second : f (suc m) ≡ f (2 * n + 1) = ap f (omega (arith, even)) in
         rw (first, second, upto_pairs n m f even) (assoc (upto n (λ k. op (f (2 * k)) (f (2 * k + 1)))) (f (2 * n)) (f (2 * n + 1)))
 
--- ---- sums and mosts are such
+-- ---- sums and maxima are such
 pub total_upto : (n : ℕ) (f : ℕ → ℕ) → total n f ≡ upto (λ x y. x + y) n f
 unfolding total
 total_upto zero f = refl

@@ -12,9 +12,9 @@ use Rattle.ultra_model.specs.Balance.{count, total, weight}
 use Rattle.ultra_topology.specs.Set.{has_bit}
 use Rattle.ultra_measure.specs.declared.element_states.ElementStates.{ElementStates}
 use Rattle.ultra_measure.specs.Held.{running, stalled, opened}
-use Rattle.ultra_measure.specs.Happened.{is_delivery_to}
+use Rattle.ultra_measure.specs.EventKinds.{is_delivery_to}
 use Rattle.ultra_measure.specs.PeSet.{IsTaken}
-use Rattle.ultra_measure.specs.ElementStates.{is_awake, is_resting, state_number, three_in_one, IsKnown, AreKnownBut, AreKnown, AreSeen, AreAnswered, AreBelow, IsSameAt, IsLeftAlone}
+use Rattle.ultra_measure.specs.ElementStates.{is_awake, is_resting, state_number, three_in_one, IsKnown, AreKnownBut, AreKnown, AreSeen, AreAnswered, AreBelow, IsSameAt}
 use Rattle.ultra_measure.proofs.Events.{count_more}
 use Rattle.ultra_measure.proofs.Resting.{still_rests, same_running, same_stalled, same_opened}
 use Rattle.ultra_measure.proofs.Tallies.{total_beyond, total_three, three_are, total_small}
@@ -69,6 +69,11 @@ module _ (n : ℕ) where
         omega (arith, before, count_more (is_delivery_to p) i es e here, one);
     within = λ p h. none_put p n _ h (put p) (are.within p h);
   }
+
+-- processing element p wasn't awake, and none of the events delivers a reply to it
+pub record IsLeftAlone (s : ElementStates) (es : List Event) (p : ℕ) : Type 0 where
+  pub asleep : is_awake s p ≡ false
+  pub unanswered : count (is_delivery_to p) es ≡ 0
 
 -- those that are awake, or to which replies come, are due
 module _ (s : ElementStates) (n : ℕ) (es : List Event) (answered due : ℕ) (are : AreAnswered n es answered) (is : (p : ℕ) → has_bit due p ≡ (is_awake s p || has_bit answered p)) where

@@ -15,7 +15,7 @@ use Rattle.ultra_isa.specs.declared.Activity.{Activity}
 use Rattle.ultra_isa.specs.declared.Activity.TheVariants as activity
 use Rattle.ultra_pni.specs.declared.Issue.{Issue}
 use Rattle.ultra_pni.specs.declared.Issue.TheVariants.{Sent, CellOpen, Full}
-use Rattle.ultra_isa.specs.Step.{Core, Stepped, does, has_stopped, is_stall, names_awaited, refers_as, refers_where, runs, runs_as, runs_where, step_of, waits_where}
+use Rattle.ultra_isa.specs.Step.{Core, StepResult, does, has_stopped, is_stall, names_awaited, refers_as, refers_where, runs, runs_as, runs_where, step_of, waits_where}
 use Rattle.ultra_model.specs.Machine.{Settings, Machine, Element, size, site, element_at}
 use Rattle.ultra_model.specs.Places.{places, present}
 use Rattle.ultra_model.specs.Phases.{after, delivery, arriving_request, stepped, without_pending, deliver, step_at}
@@ -27,7 +27,7 @@ use Rattle.ultra_route.specs.Route.{shuffled}
 use Rattle.ultra_latency.proofs.CycleEvents.{before, replied, remembered, requested, brought, deliveries, others, issues, next_is, events_are}
 use Rattle.ultra_latency.proofs.Deliveries.{brought_own}
 use Rattle.ultra_measure.specs.Held.{running, stalled, opened}
-use Rattle.ultra_measure.specs.Happened.{is_delivery_to}
+use Rattle.ultra_measure.specs.EventKinds.{is_delivery_to}
 use Rattle.ultra_measure.specs.ElementStates.{is_resting}
 
 -- ---- one step, whatever requests wait
@@ -142,8 +142,8 @@ module _ (c : Settings) (range : AreInRange c) (program : List Instr) (n p : ℕ
       let is = moved_is none in
       let step : step_at c program (requested c program n) p ≡ step_of s c.most_open program old.core (record { opened = old.interface.opened; pending = q }) = ap (λ (e : Element). step_of s c.most_open program e.core e.interface) is in
       record {
-        core = ap (λ (e : Element). e.core) new_is ∙ ap (λ (t : Stepped). t.core) step ∙ core_stays s c.most_open program old.core old.interface.opened q still;
-        opened = ap (λ (e : Element). e.interface.opened) new_is ∙ ap (λ (t : Stepped). t.interface.opened) step ∙ opened_stay s c.most_open program old.core old.interface.opened q still;
+        core = ap (λ (e : Element). e.core) new_is ∙ ap (λ (t : StepResult). t.core) step ∙ core_stays s c.most_open program old.core old.interface.opened q still;
+        opened = ap (λ (e : Element). e.interface.opened) new_is ∙ ap (λ (t : StepResult). t.interface.opened) step ∙ opened_stay s c.most_open program old.core old.interface.opened q still;
       }
 
   -- so it is as it was seen

@@ -25,7 +25,7 @@ module _ (c : Settings) (program : List Instr) (from to : ℕ) (order : from ≤
         let below : s < 6 = omega (arith, h, few) in
         (sum_goes_on c program from to order m run (λ n. total (size c) (held_at held s n)) (record { is = are.sums s h; small = are.small s below }) refl (omega (arith, now.sums s h, now.small s below)) (now.sums s h)).is;
     small = λ s h. small_goes_on c program from to order m run (are.small s h) (now.small s h);
-    mosts = λ s h. most_goes_on c program from to order m run (λ n. greatest (size c) (held_at held s n)) (are.mosts s h) refl (now.mosts s h);
+    maxima = λ s h. most_goes_on c program from to order m run (λ n. greatest (size c) (held_at held s n)) (are.maxima s h) refl (now.maxima s h);
     full = λ s h.
         let below : s < 6 = omega (arith, h, few) in
         (sum_goes_on c program from to order m run (λ n. total (size c) (full_at c held s n)) (record { is = are.full s h; small = are.full_small s below }) refl (omega (arith, now.full s h, now.full_small s below)) (now.full s h)).is;
@@ -46,7 +46,7 @@ nothing_comes c m held units even are empty d =
           let none = ap (added (λ k. at (2 * k) + at (2 * k + 1))) (sym (no s)) ∙ stage_sum c.stages m s h even held units are in
           omega (arith, none);
       small = λ s h. omega arith;
-      mosts = λ s h.
+      maxima = λ s h.
           let at : ℕ → ℕ = held_at held s m in
           let none = ap (topmost (λ k. max (at (2 * k)) (at (2 * k + 1)))) (sym (no s)) ∙ stage_most c.stages m s h even held units are in
           omega (arith, none);

@@ -6,8 +6,8 @@ use Rattle.ultra_model.specs.Machine.{Settings, Machine, size, is_quiet}
 use Rattle.ultra_model.specs.Balance.{total}
 use Rattle.ultra_model.specs.Trace.{cycle_count, last_state}
 use Rattle.ultra_latency.specs.Latency.{latencies}
-use Rattle.ultra_measure.specs.Window.{greatest, sum_of, most_of, happened}
-use Rattle.ultra_measure.specs.Happened.{is_issue, is_delivery, is_act, is_act_of, is_combination, is_combination_in}
+use Rattle.ultra_measure.specs.Window.{greatest, sum_of, most_of, event_count}
+use Rattle.ultra_measure.specs.EventKinds.{is_issue, is_delivery, is_act, is_act_of, is_combination, is_combination_in}
 use Rattle.ultra_measure.specs.Held.{running, stalled, opened, pending, waiting_in, waiting_out, requests, replies, records, full_waits}
 
 -- ---- values
@@ -45,7 +45,7 @@ abbrev pub of_stage : List ℕ → ℕ → List ℕ
 of_stage name s = name ++ codes "_" ++ decimal s
 
 module _ (c : Settings) (program : List Instr) (from to : ℕ) where
-  -- sums and mosts over the window: of all of the n values of a kind after each cycle, and of one
+  -- sums and maxima over the window: of all of the n values of a kind after each cycle, and of one
   abbrev pub sum_over : ℕ → (Machine → ℕ → ℕ) → ℕ
   sum_over n value = sum_of c program from to (λ m. total n (value m))
 
@@ -53,7 +53,7 @@ module _ (c : Settings) (program : List Instr) (from to : ℕ) where
   most_over n value = most_of c program from to (λ m. greatest n (value m))
 
   abbrev pub acts_of : ℕ → ℕ
-  acts_of k = happened c program from to (is_act_of k)
+  acts_of k = event_count c program from to (is_act_of k)
 
   abbrev pub waited : List ℕ
   waited = latencies c program from to
@@ -86,10 +86,10 @@ module _ (c : Settings) (program : List Instr) (from to : ℕ) where
   -- what happened
   abbrev pub event_columns : List Column
   event_columns =
-      (codes "issued", number (happened c program from to is_issue))
-      ∷ (codes "answered", number (happened c program from to is_delivery))
-      ∷ (codes "acts", number (happened c program from to is_act))
-      ∷ (codes "combined", number (happened c program from to is_combination))
+      (codes "issued", number (event_count c program from to is_issue))
+      ∷ (codes "answered", number (event_count c program from to is_delivery))
+      ∷ (codes "acts", number (event_count c program from to is_act))
+      ∷ (codes "combined", number (event_count c program from to is_combination))
       ∷ (codes "faults", number (sum_of c program from to (λ m. length m.stops)))
       ∷ (codes "acts_most", number (greatest (size c) acts_of))
       ∷ (codes "latency_least", number_if (reduce min waited))
@@ -116,7 +116,7 @@ module _ (c : Settings) (program : List Instr) (from to : ℕ) where
 
   abbrev pub stage_columns : ℕ → List Column
   stage_columns s =
-      in_stage (codes "combined") s (happened c program from to (is_combination_in s))
+      in_stage (codes "combined") s (event_count c program from to (is_combination_in s))
       ∷ in_stage (codes "request_queue_sum") s (sum_over (size c) (requests s))
       ∷ in_stage (codes "request_queue_most") s (most_over (size c) (requests s))
       ∷ in_stage (codes "reply_queue_sum") s (sum_over (size c) (replies s))

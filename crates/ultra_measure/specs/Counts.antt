@@ -2,8 +2,8 @@
 use Rattle.std.specs.Prelude.{◌≡◌, ℕ, ◌+◌, ◌^◌, ◌<◌, List, slice_index}
 use Rattle.ultra_msg.specs.declared.Event.{Event}
 use Rattle.ultra_model.specs.Balance.{count}
-use Rattle.ultra_measure.specs.declared.happened.EventSums.{EventSums}
-use Rattle.ultra_measure.specs.Happened.{is_issue, is_delivery, is_act, is_act_of, is_combination, is_combination_in}
+use Rattle.ultra_measure.specs.declared.event_sums.EventSums.{EventSums}
+use Rattle.ultra_measure.specs.EventKinds.{is_issue, is_delivery, is_act, is_act_of, is_combination, is_combination_in}
 
 -- these events have come to the sums
 pub record AreWithEvents (es : List Event) (old new : EventSums) : Type 0 where
@@ -13,7 +13,8 @@ pub record AreWithEvents (es : List Event) (old new : EventSums) : Type 0 where
   pub combined : new.combined ≡ old.combined + count is_combination es
   pub faults : new.faults ≡ old.faults
   pub combined_in : (s : ℕ) → s < 6
-      → slice_index new.combined_in s ≡ slice_index old.combined_in s + count (is_combination_in s) es
+      → slice_index new.combined_in s
+      ≡ slice_index old.combined_in s + count (is_combination_in s) es
   pub acts_of : (k : ℕ) → k < 64
       → slice_index new.acts_of k ≡ slice_index old.acts_of k + count (is_act_of k) es
 

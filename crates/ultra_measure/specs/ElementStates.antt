@@ -8,7 +8,7 @@ use Rattle.ultra_model.specs.Phases.{step_at}
 use Rattle.ultra_model.specs.Balance.{count}
 use Rattle.ultra_topology.specs.Set.{has_bit}
 use Rattle.ultra_measure.specs.declared.element_states.ElementStates.{ElementStates}
-use Rattle.ultra_measure.specs.Happened.{is_delivery_to}
+use Rattle.ultra_measure.specs.EventKinds.{is_delivery_to}
 use Rattle.ultra_measure.specs.Held.{running, stalled, opened}
 
 -- three numbers in one, of which the first two are below 256
@@ -61,8 +61,3 @@ module _ (c : Settings) (program : List Instr) (m : Machine) where
 pub record IsSameAt (old new : ElementStates) (p : ℕ) : Type 0 where
   pub now : slice_index new.tally p ≡ slice_index old.tally p
   pub awake : is_awake new p ≡ is_awake old p
-
--- processing element p wasn't awake, and none of the events delivers a reply to it
-pub record IsLeftAlone (s : ElementStates) (es : List Event) (p : ℕ) : Type 0 where
-  pub asleep : is_awake s p ≡ false
-  pub unanswered : count (is_delivery_to p) es ≡ 0

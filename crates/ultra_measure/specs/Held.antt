@@ -57,14 +57,14 @@ held_at Record = records
 held_at Reply = replies
 
 -- how many places it has there, where it is counted once all are taken: only wait buffers are
-abbrev pub places_for : Settings → Held → ℕ
-places_for c Request = 0
-places_for c Record = c.wait_places
-places_for c Reply = 0
+abbrev pub wait_places_of : Settings → Held → ℕ
+wait_places_of c Request = 0
+wait_places_of c Record = c.wait_places
+wait_places_of c Reply = 0
 
 -- whether all of them are taken
 abbrev pub full_at : Settings → Held → ℕ → Machine → ℕ → ℕ
-full_at c held s m x = is_full (places_for c held) (held_at held s m x)
+full_at c held s m x = is_full (wait_places_of c held) (held_at held s m x)
 
 -- a wait buffer that holds as many records as it has places
 abbrev pub full_waits : Settings → ℕ → Machine → ℕ → ℕ

@@ -12,10 +12,10 @@ use Rattle.ultra_latency.specs.Summary.{AreSummedUp, AreSmall}
 use Rattle.ultra_latency.specs.declared.summary.Latencies.{Latencies}
 use Rattle.ultra_measure.specs.declared.depths.Depths.{Depths}
 use Rattle.ultra_measure.specs.declared.elements.ElementSums.{ElementSums}
-use Rattle.ultra_measure.specs.declared.happened.EventSums.{EventSums}
+use Rattle.ultra_measure.specs.declared.event_sums.EventSums.{EventSums}
 use Rattle.ultra_measure.specs.declared.window.Window.{Window}
 use Rattle.ultra_measure.specs.Window.{sum_of, most_of, greatest}
-use Rattle.ultra_measure.specs.Happened.{is_issue, is_delivery, is_act, is_act_of, is_combination, is_combination_in}
+use Rattle.ultra_measure.specs.EventKinds.{is_issue, is_delivery, is_act, is_act_of, is_combination, is_combination_in}
 use Rattle.ultra_measure.specs.ElementStates.{AreSeen}
 use Rattle.ultra_measure.specs.Held.{held_at, full_at, running, stalled, opened, pending, waiting_in, waiting_out}
 
@@ -51,13 +51,13 @@ module _ (c : Settings) (program : List Instr) (from to : ℕ) where
     pub pending : IsSum (λ m. total (size c) (pending m)) s.pending
     pub states : AreSeen c program (after c program to) s.states
 
-  -- the sums and the mosts of what stages hold of a kind, and the sums of what is full
+  -- the sums and the maxima of what stages hold of a kind, and the sums of what is full
   pub record AreDepths (held : Held) (d : Depths) : Type 0 where
     pub sums : (s : ℕ) → s < c.stages
         → slice_index d.sums s ≡ sum_of c program from to (λ m. total (size c) (held_at held s m))
     pub small : (s : ℕ) → s < 6 → slice_index d.sums s ≤ (to - from) * (2 ^ 32 - 1)
-    pub mosts : (s : ℕ) → s < c.stages
-        → slice_index d.mosts s
+    pub maxima : (s : ℕ) → s < c.stages
+        → slice_index d.maxima s
         ≡ most_of c program from to (λ m. greatest (size c) (held_at held s m))
     pub full : (s : ℕ) → s < c.stages
         → slice_index d.full s ≡ sum_of c program from to (λ m. total (size c) (full_at c held s m))
@@ -81,9 +81,9 @@ module _ (c : Settings) (m : Machine) (held : Held) (old new : Depths) where
         → slice_index new.sums s ≡ slice_index old.sums s + total (size c) (held_at held s m)
     pub small : (s : ℕ) → s < 6
         → slice_index new.sums s ≤ slice_index old.sums s + (2 ^ 32 - 1)
-    pub mosts : (s : ℕ) → s < c.stages
-        → slice_index new.mosts s
-        ≡ max (slice_index old.mosts s) (greatest (size c) (held_at held s m))
+    pub maxima : (s : ℕ) → s < c.stages
+        → slice_index new.maxima s
+        ≡ max (slice_index old.maxima s) (greatest (size c) (held_at held s m))
     pub full : (s : ℕ) → s < c.stages
         → slice_index new.full s ≡ slice_index old.full s + total (size c) (full_at c held s m)
     pub full_small : (s : ℕ) → s < 6

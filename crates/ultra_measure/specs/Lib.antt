@@ -1,5 +1,5 @@
 pub mod Window
-pub mod Happened
+pub mod EventKinds
 pub mod Held
 pub mod Columns
 pub mod Texts

@@ -231,10 +231,9 @@ fn put_stage<S: Sink>(
 )
     requires kept { IsKept blocks.now.config blocks.now.program window.now.from to window.now }
     requires stage { stage < 6 }
-    ensures { Writes S.taken S.failures
-        (columns_text form
-        (stage_columns blocks.now.config blocks.now.program window.now.from to stage)) buffer.old
-        buffer.new }
+    ensures { Writes S.taken S.failures (columns_text form
+        (stage_columns blocks.now.config blocks.now.program window.now.from to stage))
+        buffer.old buffer.new }
 {
     let there = stage < blocks.config().stages();
     let at = stage as usize;
@@ -261,7 +260,7 @@ fn put_stage<S: Sink>(
         b"request_queue_most",
         stage,
         there,
-        u64::from(requests.mosts[at]),
+        u64::from(requests.maxima[at]),
     );
     put_of_stage(
         buffer,
@@ -277,7 +276,7 @@ fn put_stage<S: Sink>(
         b"reply_queue_most",
         stage,
         there,
-        u64::from(replies.mosts[at]),
+        u64::from(replies.maxima[at]),
     );
     put_of_stage(buffer, form, b"records_sum", stage, there, records.sums[at]);
     put_of_stage(
@@ -286,7 +285,7 @@ fn put_stage<S: Sink>(
         b"records_most",
         stage,
         there,
-        u64::from(records.mosts[at]),
+        u64::from(records.maxima[at]),
     );
     put_of_stage(buffer, form, b"full_waits", stage, there, records.full[at]);
 }
@@ -300,10 +299,10 @@ fn put_of_stage<S: Sink>(
     there: bool,
     value: u64,
 )
-    ensures { Writes S.taken S.failures
-        (column_text form
-        (of_stage name.now stage, elim there [ true ↦ number value | false ↦ None ])) buffer.old
-        buffer.new }
+    ensures { Writes S.taken S.failures (column_text form (
+      of_stage name.now stage,
+      elim there [ true ↦ number value | false ↦ None ],
+    )) buffer.old buffer.new }
 {
     let value = if there {
         Some(Value::Number(value))
@@ -315,8 +314,8 @@ fn put_of_stage<S: Sink>(
 
 /// Writes the first measure, which has a number.
 fn put_first<S: Sink>(buffer: &mut TextBuffer<'_, S>, form: Form, name: &[u8], value: u64)
-    ensures { Writes S.taken S.failures (first_text form (name.now, number value)) buffer.old
-        buffer.new }
+    ensures { Writes S.taken S.failures
+        (first_text form (name.now, number value)) buffer.old buffer.new }
 {
     match form {
         Form::Lines => put_line(buffer, name, None, Some(Value::Number(value))),
@@ -331,8 +330,8 @@ fn put_first<S: Sink>(buffer: &mut TextBuffer<'_, S>, form: Form, name: &[u8], v
 
 /// Writes a measure that has a number, behind another.
 fn put_number<S: Sink>(buffer: &mut TextBuffer<'_, S>, form: Form, name: &[u8], value: u64)
-    ensures { Writes S.taken S.failures (column_text form (name.now, number value)) buffer.old
-        buffer.new }
+    ensures { Writes S.taken S.failures
+        (column_text form (name.now, number value)) buffer.old buffer.new }
 {
     put_column(buffer, form, name, None, Some(Value::Number(value)));
 }

@@ -1,4 +1,4 @@
-//! What the stages of a machine hold, and the sums and mosts over cycles.
+//! What the stages of a machine hold, and the sums and maxima over cycles.
 
 ghost use Rattle.std.specs.Prelude.{◌≡◌, ℕ, List, ◌+◌, ◌^◌, ◌<◌, ◌≤◌, slice_index};
 ghost use Rattle.ultra_isa.specs.declared.Instr.{Instr as InstrOf};
@@ -19,26 +19,26 @@ use ultra_topology::UnitSet;
 pub(crate) struct Depths {
     /// The sums.
     pub(crate) sums: [u64; 6],
-    /// The mosts.
-    pub(crate) mosts: [u32; 6],
+    /// The maxima.
+    pub(crate) maxima: [u32; 6],
     /// The sums of the wait buffers that are full.
     pub(crate) full: [u64; 6],
 }
 
 impl Depths {
-    /// Over no cycle.
+    /// The sums over no cycles: all are 0.
     pub(crate) fn new() -> Depths
         ensures { (c : Settings) (program : List InstrOf) (from : ℕ) (held : Held) →
             AreDepths c program from from held result }
     {
         Depths {
             sums: [0; 6],
-            mosts: [0; 6],
+            maxima: [0; 6],
             full: [0; 6],
         }
     }
 
-    /// Over one cycle more, of a kind. `from` is the first, and `cycle` this one.
+    /// Adds cycle `cycle` to the sums of a kind, which began with cycle `from`.
     #[inline(always)]
     pub(crate) fn note_cycle<const SMALL: bool>(
         &mut self,
@@ -84,7 +84,7 @@ impl Depths {
             let here = depth_of_stage::<SMALL>(blocks, net, held, holders, stage);
             let at = stage as usize;
             self.sums[at] += u64::from(here.sum);
-            self.mosts[at] = self.mosts[at].max(here.most);
+            self.maxima[at] = self.maxima[at].max(here.most);
             self.full[at] += u64::from(here.full);
         }
     }

@@ -79,7 +79,7 @@ pub(crate) struct ElementSums {
 }
 
 impl ElementSums {
-    /// Over no cycle.
+    /// The sums over no cycles: all are 0.
     pub(crate) fn new(net: Net) -> ElementSums
         ensures { (c : Settings) (program : List InstrOf) (from : ℕ) → c.stages ≡ net →
             AreElementSums c program from from result }
@@ -94,8 +94,8 @@ impl ElementSums {
         }
     }
 
-    /// Over one cycle more. `from` is the first, and `cycle` this one. `answered` are those to
-    /// which replies came in it.
+    /// Adds cycle `cycle` to the sums, which began with cycle `from`. `answered` are those to which
+    /// replies came in it.
     pub(crate) fn note_cycle<const SMALL: bool>(
         &mut self,
         blocks: &Blocks,

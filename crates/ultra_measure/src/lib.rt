@@ -5,7 +5,7 @@ mod columns;
 mod depths;
 mod element_states;
 mod elements;
-mod happened;
+mod event_sums;
 mod measuring;
 mod pe_set;
 mod queues;

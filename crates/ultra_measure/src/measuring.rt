@@ -139,8 +139,8 @@ fn put_windows<S: Sink>(
     requires start { AreAfter blocks.old.config blocks.old.program 0 blocks.old table.old }
     ensures { Writes S.taken S.failures
         (by_number (window_count blocks.old.config blocks.old.program every)
-        (λ k. row_text form (window_of blocks.old.config blocks.old.program every k))) buffer.old
-        buffer.new }
+        (λ k. row_text form (window_of blocks.old.config blocks.old.program every k)))
+        buffer.old buffer.new }
 {
     let most = blocks.config().cycles();
     let mut from = 0;

@@ -3,7 +3,7 @@
 ghost use Rattle.std.specs.Prelude.{◌≡◌, ◌+◌, ◌-◌, ◌*◌, ◌^◌, ◌<◌, ◌≤◌, max, true};
 ghost use Rattle.ultra_model.specs.Machine.{size};
 ghost use Rattle.ultra_model.specs.Balance.{total};
-ghost use Rattle.ultra_measure.specs.Held.{AreUnitsWith, full_at, held_at, is_full, places_for};
+ghost use Rattle.ultra_measure.specs.Held.{AreUnitsWith, full_at, held_at, is_full, wait_places_of};
 ghost use Rattle.ultra_measure.specs.Nets.{IsNetOf};
 ghost use Rattle.ultra_measure.specs.Window.{greatest};
 
@@ -44,7 +44,7 @@ pub(crate) fn depth_of_stage<const SMALL: bool>(
     ensures full { result.full ≡
         total (size blocks.now.config) (full_at blocks.now.config held stage blocks.now.machine) }
 {
-    let places = places_of(blocks, held);
+    let places = wait_places_of(blocks, held);
     let mut sum: u32 = 0;
     let mut most: u32 = 0;
     let mut full: u32 = 0;
@@ -71,7 +71,7 @@ fn depth_of_switch(
     requires net { net ≡ blocks.now.config.stages }
     requires stage { stage < blocks.now.config.stages }
     requires switch { switch < 2 ^ (blocks.now.config.stages - 1) }
-    requires places { places ≡ places_for blocks.now.config held }
+    requires places { places ≡ wait_places_of blocks.now.config held }
     ensures sum { result.sum ≡ held_at held stage blocks.now.machine (2 * switch) +
         held_at held stage blocks.now.machine (2 * switch + 1) }
     ensures most { result.most ≡ max (held_at held stage blocks.now.machine (2 * switch))
@@ -92,7 +92,7 @@ fn depth_of_switch(
     }
 }
 
-/// How many of two have all places taken. Mostly neither has, and then each isn't tested.
+/// How many of two have all places taken. Mostly neither has, and one comparison shows it.
 #[inline(always)]
 fn count_full(places: u32, one: u32, two: u32) -> u32
     ensures value { result ≡ is_full places one + is_full places two }
@@ -105,8 +105,8 @@ fn count_full(places: u32, one: u32, two: u32) -> u32
     }
 }
 
-/// 1 where all places are taken, and else 0. What has no place is never full. The code is out of
-/// line, so that the compiler doesn't do it where it isn't needed.
+/// 1 where all places are taken, and else 0. What has no place is never full. It isn't inlined, so
+/// that the compiler doesn't compute it where it isn't needed.
 #[cold]
 #[inline(never)]
 fn count_if_full(places: u32, held: u32) -> u32
@@ -136,11 +136,10 @@ fn held_at_position(blocks: &Blocks, net: Net, held: Held, stage: u32, position:
     count as u32
 }
 
-/// How many places a queue, or a wait buffer, has, where it is counted once all are taken: only
-/// wait buffers are, and the others have none here.
+/// The places of a wait buffer, and 0 for a queue, since full queues aren't counted.
 #[inline(always)]
-fn places_of(blocks: &Blocks, held: Held) -> u32
-    ensures { result ≡ places_for blocks.now.config held }
+fn wait_places_of(blocks: &Blocks, held: Held) -> u32
+    ensures { result ≡ wait_places_of blocks.now.config held }
 {
     match held {
         Held::Record => blocks.config().wait_places(),

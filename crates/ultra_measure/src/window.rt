@@ -9,7 +9,7 @@ ghost use Rattle.ultra_measure.specs.Nets.{IsNetOf};
 
 use crate::depths::Depths;
 use crate::elements::ElementSums;
-use crate::happened::EventSums;
+use crate::event_sums::EventSums;
 use crate::registers::modules_that_hold;
 use ultra_block::{Blocks, Held};
 use ultra_latency::{Latencies, OpenTable, law_of_few_events, law_of_open_requests};

@@ -71,7 +71,8 @@ impl Model for Module {
 
     ghost view = { λ m. record { cells = m.cells.items; inp = m.inp; out = m.out } };
 
-    ghost invariant = { λ m. (1 ≤ length m.cells.items) × (length m.cells.items ≤ MOST_CELLS) × IfSome m.inp (λ p. p.offset < length m.cells.items) };
+    ghost invariant = { λ m. (1 ≤ length m.cells.items) × (length m.cells.items ≤ MOST_CELLS) ×
+        IfSome m.inp (λ p. p.offset < length m.cells.items) };
 }
 
 impl Module {
@@ -82,7 +83,8 @@ impl Module {
     pub fn new(alloc: Global, cells: u32) -> Result<Module, ModuleFault>
         ensures ok { IfOk result (λ m. m ≡ fresh_module cells) }
         ensures in_range { OnOk result ((1 ≤ cells) × (cells ≤ MOST_CELLS)) }
-        ensures out_of_range { IsErrOf result ModuleFault.CellsOutOfRange ↔ ((cells < 1) ⊎ (MOST_CELLS < cells)) }
+        ensures out_of_range { IsErrOf result ModuleFault.CellsOutOfRange ↔
+            ((cells < 1) ⊎ (MOST_CELLS < cells)) }
     {
         if cells < 1 || cells > MOST_CELLS {
             return Err(ModuleFault::CellsOutOfRange);
@@ -134,7 +136,8 @@ impl Module {
     /// Sets the cell at this offset, which the module must have.
     pub fn set(&mut self, offset: u32, word: Word)
         requires { offset < length self.old.cells }
-        ensures state { self.new ≡ record self.old { cells = slice_set self.old.cells offset word } }
+        ensures state { self.new ≡
+            record self.old { cells = slice_set self.old.cells offset word } }
         ensures count { length self.new.cells ≡ length self.old.cells }
     {
         self.cells[offset as usize] = word;

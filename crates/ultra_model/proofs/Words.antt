@@ -31,7 +31,7 @@ use Rattle.ultra_isa.specs.declared.Instr.TheVariants.{Set, Add, AddWord, Subtra
 use Rattle.ultra_isa.specs.declared.Activity.{Activity}
 use Rattle.ultra_isa.specs.declared.Activity.TheVariants as activity
 use Rattle.ultra_isa.specs.Instruction.{Site, Effect, sets, goes_on_at, refers, waits, halts, effect}
-use Rattle.ultra_isa.specs.Step.{Core, Stepped, received, refers_as, refers_where, waits_where, does, runs_where, runs, runs_as, step_of, names_awaited}
+use Rattle.ultra_isa.specs.Step.{Core, StepResult, received, refers_as, refers_where, waits_where, does, runs_where, runs, runs_as, step_of, names_awaited}
 use Rattle.ultra_isa.proofs.Steps.{SendsInto}
 use Rattle.ultra_model.specs.Machine.{Settings, Machine, Element, size, last_stage, site, start, given_value, lane_at, replies_at, module_at, element_at, reply_exit, request_exit}
 use Rattle.ultra_model.specs.Phases.{deliver, delivered, without_reply, records_left, replies_made, arriving_reply, reply_before, has_reply_room, leaving_reply, replies_at_exit, next_replies, reply_phase, memory_phase, arrive_all, has_request_room, request_before, admitted, arriving_request, entering, with_request, requests_by, arrivals, lane_after_leaving, leaving_request, request_phase, step_at, processor_phase, cycle, after}
@@ -230,7 +230,7 @@ module _ (s : Site) (pe : IsWord s.pe) (all : IsWord s.size) where
   effect_word vs pc Halt h k = tt
 
   -- a step's registers, and the request that it sends
-  pub record StepWords (t : Stepped) : Type 0 where
+  pub record StepWords (t : StepResult) : Type 0 where
     pub registers : AllByRecursion IsWord t.core.registers
     pub sent : IfSome t.sent Asks
 

@@ -19,7 +19,7 @@ use Rattle.ultra_pni.specs.Interface.{target_of, closed}
 use Rattle.ultra_isa.specs.declared.Instr.{Instr}
 use Rattle.ultra_isa.specs.declared.Step.{Step}
 use Rattle.ultra_isa.specs.declared.Step.TheVariants as step
-use Rattle.ultra_isa.specs.Step.{Stepped, step_of, received}
+use Rattle.ultra_isa.specs.Step.{StepResult, step_of, received}
 use Rattle.ultra_model.specs.declared.Stop.{Stop}
 use Rattle.ultra_model.specs.Places.{places, table, after_leaving, present, joined}
 use Rattle.ultra_model.specs.Machine.{Settings, Machine, Element, size, last_stage, site, request_exit, reply_exit, lane_at, replies_at, module_at, element_at, start}
@@ -83,7 +83,7 @@ abbrev pub issues_after : ℕ → Option Request → ℕ
 issues_after n None = n
 issues_after n (Some r) = n + 1
 
-abbrev pub stepped : Element → Stepped → Element
+abbrev pub stepped : Element → StepResult → Element
 stepped e t =
     record { core = t.core; interface = t.interface; issued = issues_after e.issued t.sent }
 
@@ -251,7 +251,7 @@ module _ (c : Settings) where
   }
 
   -- ---- processors
-  abbrev pub step_at : List Instr → Machine → ℕ → Stepped
+  abbrev pub step_at : List Instr → Machine → ℕ → StepResult
   step_at program m p =
       step_of (site c p) c.most_open program (element_at m p).core (element_at m p).interface
 

@@ -26,21 +26,22 @@ pub const MOST_CYCLES: u32 = 1_000_000;
 /// `None` is a value that is missing, or of another kind than wanted.
 #[derive(Drop)]
 pub struct RawSettings {
-    /// The stages of the network, to be 1 to 6.
+    /// The stages of the network: 1 to 6.
     pub stages: Option<i64>,
-    /// The places of a queue toward memory, to be 2 to 32.
+    /// The places of a queue toward memory: 2 to 32.
     pub request_places: Option<i64>,
-    /// The places of a queue toward the processing elements, to be 4 to 64.
+    /// The places of a queue toward the processing elements: 4 to 64.
     pub reply_places: Option<i64>,
-    /// The places of a wait buffer, to be 0 to 16.
+    /// The places of a wait buffer: 0 to 16.
     pub wait_places: Option<i64>,
-    /// The most cells that a processing element may have open, to be 1 to 8.
+    /// The maximum number of open cells of a processing element: 1 to 8.
     pub most_open: Option<i64>,
-    /// The cells of a module, to be 1 to 4096.
+    /// The cells of a module: 1 to 4096.
     pub cells: Option<i64>,
-    /// The most cycles of a run, to be 1 to 1,000,000.
+    /// The most cycles of a run: 1 to 1,000,000.
     pub cycles: Option<i64>,
-    /// Addresses of cells, each with the value that the cell has at first.
+    /// Addresses of cells, each with the value that the cell has at first. The addresses are
+    /// different and below the number of all cells, the values below `2^32`.
     pub initial: Option<Vec<(i64, i64)>>,
 }
 
@@ -268,7 +269,7 @@ impl Config {
         self.cells
     }
 
-    /// The cells of the whole memory.
+    /// The cells of the whole memory, from 2 to 262,144.
     pub fn all_cells(&self) -> u32
         ensures value { result ≡ 2 ^ self.now.stages * self.now.cells }
         ensures small { result ≤ 262144 }

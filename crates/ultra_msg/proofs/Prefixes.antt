@@ -43,32 +43,32 @@ takes_behind {bytes = bytes} {old = old} first had t = record {
 
 -- ---- bytes on their way through a buffer
 pub none_written : (old waited : List ℕ) → AreTakenOrWait [] old waited old waited
-none_written old waited = record { handed_on = []; taken = sym (append-nil old); rest = sym (append-nil waited) }
+none_written old waited = record { passed_on = []; taken = sym (append-nil old); rest = sym (append-nil waited) }
 
 pub more_waits : (old waited bytes : List ℕ) → AreTakenOrWait bytes old waited old (waited ++ bytes)
-more_waits old waited bytes = record { handed_on = []; taken = sym (append-nil old); rest = refl }
+more_waits old waited bytes = record { passed_on = []; taken = sym (append-nil old); rest = refl }
 
-behind : (a b ws wt handed_on : List ℕ) → handed_on ++ wt ≡ ws ++ a → handed_on ++ (wt ++ b) ≡ ws ++ (a ++ b)
-behind a b ws wt handed_on rest = sym (append_assoc handed_on wt b) ∙ ap (λ t. t ++ b) rest ∙ append_assoc ws a b
+behind : (a b ws wt passed_on : List ℕ) → passed_on ++ wt ≡ ws ++ a → passed_on ++ (wt ++ b) ≡ ws ++ (a ++ b)
+behind a b ws wt passed_on rest = sym (append_assoc passed_on wt b) ∙ ap (λ t. t ++ b) rest ∙ append_assoc ws a b
 
 pub both_written : {a b s t u ws wt wu : List ℕ} → AreTakenOrWait a s ws t wt → AreTakenOrWait b t wt u wu → AreTakenOrWait (a ++ b) s ws u wu
 both_written {a = a} {b = b} {s = s} {ws = ws} {wt = wt} {wu = wu} v w = record {
-  handed_on = v.handed_on ++ w.handed_on;
-  taken = w.taken ∙ ap (λ x. x ++ w.handed_on) v.taken ∙ append_assoc s v.handed_on w.handed_on;
-  rest = append_assoc v.handed_on w.handed_on wu ∙ ap (λ x. v.handed_on ++ x) w.rest ∙ behind a b ws wt v.handed_on v.rest;
+  passed_on = v.passed_on ++ w.passed_on;
+  taken = w.taken ∙ ap (λ x. x ++ w.passed_on) v.taken ∙ append_assoc s v.passed_on w.passed_on;
+  rest = append_assoc v.passed_on w.passed_on wu ∙ ap (λ x. v.passed_on ++ x) w.rest ∙ behind a b ws wt v.passed_on v.rest;
 }
 
 -- the first bytes were written, and of those that waited and the next ones the sink took a prefix
 pub takes_later : {a s t u ws wt : List ℕ} (b : List ℕ) → AreTakenOrWait a s ws t wt → TakesPrefix (wt ++ b) t u → TakesPrefix (ws ++ (a ++ b)) s u
-takes_later {a = a} {s = s} {u = u} {ws = ws} {wt = wt} b v w = subst (λ x. TakesPrefix x s u) (behind a b ws wt v.handed_on v.rest) (takes_behind v.handed_on v.taken w)
+takes_later {a = a} {s = s} {u = u} {ws = ws} {wt = wt} b v w = subst (λ x. TakesPrefix x s u) (behind a b ws wt v.passed_on v.rest) (takes_behind v.passed_on v.taken w)
 
 -- all that waited, the bytes put behind it too, was handed on, so that nothing waits
-pub all_handed_on : {old new : List ℕ} (bytes waited : List ℕ) → new ≡ old ++ (waited ++ bytes) → AreTakenOrWait bytes old waited new []
-all_handed_on bytes waited all = record { handed_on = waited ++ bytes; taken = all; rest = append-nil (waited ++ bytes) }
+pub all_passed_on : {old new : List ℕ} (bytes waited : List ℕ) → new ≡ old ++ (waited ++ bytes) → AreTakenOrWait bytes old waited new []
+all_passed_on bytes waited all = record { passed_on = waited ++ bytes; taken = all; rest = append-nil (waited ++ bytes) }
 
 -- bytes were written, some of them waited, and then those were handed on: all of them, or a prefix
-pub rest_handed_on : {bytes s t u ws wt : List ℕ} → AreTakenOrWait bytes s ws t wt → u ≡ t ++ wt → u ≡ s ++ (ws ++ bytes)
-rest_handed_on {s = s} {wt = wt} v all = all ∙ ap (λ x. x ++ wt) v.taken ∙ append_assoc s v.handed_on wt ∙ ap (λ x. s ++ x) v.rest
+pub rest_passed_on : {bytes s t u ws wt : List ℕ} → AreTakenOrWait bytes s ws t wt → u ≡ t ++ wt → u ≡ s ++ (ws ++ bytes)
+rest_passed_on {s = s} {wt = wt} v all = all ∙ ap (λ x. x ++ wt) v.taken ∙ append_assoc s v.passed_on wt ∙ ap (λ x. s ++ x) v.rest
 
 pub rest_cut : {bytes s t u ws wt : List ℕ} → AreTakenOrWait bytes s ws t wt → TakesPrefix wt t u → TakesPrefix (ws ++ bytes) s u
-rest_cut {s = s} {u = u} v cut = subst (λ x. TakesPrefix x s u) v.rest (takes_behind v.handed_on v.taken cut)
+rest_cut {s = s} {u = u} v cut = subst (λ x. TakesPrefix x s u) v.rest (takes_behind v.passed_on v.taken cut)

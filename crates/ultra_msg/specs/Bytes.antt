@@ -26,16 +26,16 @@ pub record TakesPart (n : ℕ) (bytes old new : List ℕ) : Type 0 where
 -- bytes were written behind those that waited: the sink took the first of them all, and the others
 -- wait
 pub record AreTakenOrWait (bytes old waited new waits : List ℕ) : Type 0 where
-  pub handed_on : List ℕ
-  pub taken : new ≡ old ++ handed_on
-  pub rest : handed_on ++ waits ≡ waited ++ bytes
+  pub passed_on : List ℕ
+  pub taken : new ≡ old ++ passed_on
+  pub rest : passed_on ++ waits ≡ waited ++ bytes
 
 -- pieces of bytes, joined in order
-abbrev pub in_a_row : List (Bor (List ℕ)) → List ℕ
-in_a_row pieces = flat_map (λ piece. piece.now) pieces
+abbrev pub joined_pieces : List (Bor (List ℕ)) → List ℕ
+joined_pieces pieces = flat_map (λ piece. piece.now) pieces
 
 -- the bytes were written, or the sink has failed once and has taken a prefix of them
-pub record Writes {T E : Type 0} (result : Result T E) (bytes old new : List ℕ)
+pub record WritesOrFails {T E : Type 0} (result : Result T E) (bytes old new : List ℕ)
     (before after : ℕ) : Type 0 where
   pub ok : OnOk result (new ≡ old ++ bytes)
   pub still : OnOk result (after ≡ before)

@@ -306,7 +306,8 @@ impl Give {
     /// request answered by `Fixed`; this project's profile.
     pub fn old_goes_first(self) -> bool
         ensures fixed { result ≡ not (is_fixed self) }
-        ensures in_pair { (old new : Op) → self ≡ (pair_of old new).give_old → result ≡ (pair_of old new).old_first }
+        ensures in_pair { (old new : Op) → self ≡ (pair_of old new).give_old →
+            result ≡ (pair_of old new).old_first }
     {
         !matches!(self, Give::Fixed(_))
     }

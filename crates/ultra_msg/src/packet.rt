@@ -26,7 +26,8 @@ impl Model for RequestPacket {
 
     ghost invariant = { λ p. IsOp p.kind p.word };
 
-    ghost inverse = { λ r. record { pe = r.pe; cell = r.cell; kind = kind_of r.op; word = word_of r.op } };
+    ghost inverse = { λ r.
+        record { pe = r.pe; cell = r.cell; kind = kind_of r.op; word = word_of r.op } };
 }
 
 impl RequestPacket {
@@ -117,7 +118,12 @@ impl Model for ReplyPacket {
 
     ghost invariant = { λ p. IsReply p.kind p.word };
 
-    ghost inverse = { λ m. record { pe = m.pe; cell = m.cell; kind = kind_of_reply m.reply; word = word_of_reply m.reply } };
+    ghost inverse = { λ m. record {
+      pe = m.pe;
+      cell = m.cell;
+      kind = kind_of_reply m.reply;
+      word = word_of_reply m.reply;
+    } };
 }
 
 impl ReplyPacket {

@@ -1,12 +1,13 @@
 //! Pieces of a text.
 
-ghost use Rattle.ultra_msg.specs.Bytes.{in_a_row, Writes};
+ghost use Rattle.ultra_msg.specs.Bytes.{joined_pieces, WritesOrFails};
 
 use crate::{Sink, SinkFault, write_all};
 
 /// Writes pieces of bytes in order. After a fault the sink has taken a prefix of them.
 pub fn write_pieces<S: Sink>(sink: &mut S, pieces: &[&[u8]]) -> Result<(), SinkFault>
-    ensures { Writes result (in_a_row pieces.now) (S.taken sink.old) (S.taken sink.new) (S.failures sink.old) (S.failures sink.new) }
+    ensures { WritesOrFails result (joined_pieces pieces.now) (S.taken sink.old) (S.taken sink.new)
+        (S.failures sink.old) (S.failures sink.new) }
 {
     for piece in pieces {
         write_piece(sink, *piece)?;
@@ -16,7 +17,8 @@ pub fn write_pieces<S: Sink>(sink: &mut S, pieces: &[&[u8]]) -> Result<(), SinkF
 
 /// Writes one piece.
 fn write_piece<S: Sink>(sink: &mut S, piece: &[u8]) -> Result<(), SinkFault>
-    ensures { Writes result piece.now (S.taken sink.old) (S.taken sink.new) (S.failures sink.old) (S.failures sink.new) }
+    ensures { WritesOrFails result piece.now (S.taken sink.old) (S.taken sink.new)
+        (S.failures sink.old) (S.failures sink.new) }
 {
     write_all(sink, piece)
 }

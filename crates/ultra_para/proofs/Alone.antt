@@ -12,7 +12,7 @@ use Rattle.ultra_isa.specs.declared.Activity.{Activity}
 use Rattle.ultra_isa.specs.declared.Activity.TheVariants as activity
 use Rattle.ultra_isa.specs.declared.Step.TheVariants as step
 use Rattle.ultra_isa.specs.Instruction.{Site, names, Effect, sets, goes_on_at, refers, waits, halts, effect}
-use Rattle.ultra_isa.specs.Step.{Core, Stepped, stays, names_awaited, waits_where, refers_where, does, runs_where, runs, runs_as, step_of}
+use Rattle.ultra_isa.specs.Step.{Core, StepResult, stays, names_awaited, waits_where, refers_where, does, runs_where, runs, runs_as, step_of}
 use Rattle.ultra_model.proofs.Neighbours.{other}
 use Rattle.ultra_para.specs.Careful.{refers_to_cell, begins_with_fence, is_careful}
 
@@ -21,7 +21,7 @@ abbrev pub closed_with : List Request → Interface
 closed_with rs = record { opened = []; pending = rs }
 
 -- two steps do the same but for what is pending
-pub record IsSameStep (t u : Stepped) : Type 0 where
+pub record IsSameStep (t u : StepResult) : Type 0 where
   pub core : t.core ≡ u.core
   pub sent : t.sent ≡ u.sent
   pub opened : t.interface.opened ≡ u.interface.opened
@@ -34,7 +34,7 @@ module _ (s : Site) (k : ℕ) (some : 1 ≤ k) (rs : List Request) where
   room : (r : Request) → issue_of k (closed_with rs) r ≡ Sent
   room r = let within : nat_lt 0 k ≡ true = grind (arith, some) in rw within refl
 
-  same : (t u : Stepped) → t.core ≡ u.core → t.sent ≡ u.sent → t.interface.opened ≡ u.interface.opened → IsSameStep t u
+  same : (t u : StepResult) → t.core ≡ u.core → t.sent ≡ u.sent → t.interface.opened ≡ u.interface.opened → IsSameStep t u
   same t u p q r = record { core = p; sent = q; opened = r }
 
   same_reference : (b : Bool) (c : Core) (r : Request) (target : Option ℕ) → IsSameStep (refers_where s k b c (closed_with rs) r target) (refers_where s 1 b c empty_interface r target)

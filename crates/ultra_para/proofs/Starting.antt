@@ -4,13 +4,13 @@ use Rattle.std.specs.Prelude.{◌==◌, ◌⊎◌}
 use Rattle.std.specs.List.{range_with_len}
 use Rattle.std.proofs.lemmas.List.{same_lists, length-set, get_or-set_same, get_or-set_other}
 use Rattle.std.proofs.lemmas.Bool.{cases_eq, eq-eqb, ne_eqb}
-use Rattle.ultra_isa.specs.Step.{Located, fresh_core}
+use Rattle.ultra_isa.specs.Step.{ProcessorState, fresh_core}
 use Rattle.ultra_model.specs.Places.{places}
 use Rattle.ultra_model.specs.Machine.{Settings, size, site, given_value}
 use Rattle.ultra_model.proofs.Each.{places_at, places_none, places_more, length-places}
 
 -- the processors below a number
-abbrev pub first_processors : Settings → ℕ → List Located
+abbrev pub first_processors : Settings → ℕ → List ProcessorState
 first_processors c n = places n (λ p. record { site = site c p; core = fresh_core })
 
 pub no_processors : (c : Settings) → first_processors c 0 ≡ []

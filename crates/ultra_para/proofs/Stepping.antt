@@ -12,7 +12,7 @@ use Rattle.ultra_pni.specs.declared.OpenCell.{OpenCell}
 use Rattle.ultra_pni.specs.Interface.{Interface}
 use Rattle.ultra_isa.specs.declared.Instr.{Instr}
 use Rattle.ultra_isa.specs.declared.Step.TheVariants as step
-use Rattle.ultra_isa.specs.Step.{Core, fresh_core, Stepped, stays, step_of}
+use Rattle.ultra_isa.specs.Step.{Core, fresh_core, StepResult, stays, step_of}
 use Rattle.ultra_model.specs.Machine.{Settings, Element, size, site}
 use Rattle.ultra_model.specs.Phases.{issues_after as count_after}
 use Rattle.ultra_model.proofs.Each.{each-weaker}
@@ -112,7 +112,7 @@ module _ (c : Settings) (some_open : 1 ≤ c.most_open) (program : List Instr) (
   Turned p q now os k = ((alone c program p q).sent ≡ None) × State c program later list p now os k (alone c program p q).core ⊎ State c program later list p now os k q
 
   module _ (p : ℕ) (now : Core) (i : Interface) (k : ℕ) (q : Core) where
-    abbrev t : Stepped
+    abbrev t : StepResult
     t = step_of (site c p) c.most_open program now i
 
     -- ---- no issue of p
@@ -168,7 +168,7 @@ module _ (c : Settings) (some_open : 1 ≤ c.most_open) (program : List Instr) (
     module _ (new : AllByRecursion (NewIssue (λ (u : LoggedIssue). u.pe ≡ p → IsNewOf t.sent k u) n) es) (issue_listed : IfSome t.sent (λ (r : Request). (r.pe ≡ p) × IsIn (Issued r k) es)) where
       fence_turn : (w : IsWaiting c program is p now i.opened k) → ((none : AllByRecursion (NewIssue (λ (u : LoggedIssue). u.pe ≡ p → ⊥) n) es) → State c program later list p now i.opened k q) → Turned p q t.core t.interface.opened (count_after k t.sent)
       fence_turn w f =
-          let none = none_of t.sent (ap (λ (u : Stepped). u.sent) (stalled w)) new in
+          let none = none_of t.sent (ap (λ (u : StepResult). u.sent) (stalled w)) new in
           rw (stalled w) (inr (f none))
 
       -- ---- with no cell open

@@ -2,4 +2,4 @@ pub mod Para
 pub mod Report
 pub mod Careful
 pub mod Law
-pub mod Programmed
+pub mod ParaState

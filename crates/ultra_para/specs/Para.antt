@@ -6,7 +6,7 @@ use Rattle.ultra_msg.specs.Act.{act}
 use Rattle.ultra_pni.specs.Interface.{empty_interface, target_of}
 use Rattle.ultra_isa.specs.declared.Instr.{Instr}
 use Rattle.ultra_isa.specs.Instruction.{Site}
-use Rattle.ultra_isa.specs.Step.{Core, fresh_core, Stepped, step_of, received}
+use Rattle.ultra_isa.specs.Step.{Core, fresh_core, StepResult, step_of, received}
 use Rattle.ultra_model.specs.Places.{places}
 use Rattle.ultra_model.specs.Machine.{Settings, size, site, given_value}
 
@@ -20,7 +20,7 @@ core_at m p = slice_index_or m.cores p fresh_core
 
 -- a step of the machine's processing element while no cell is open. No register is awaited, no
 -- issue is refused, and a fence has nothing to wait for, so it never stalls
-abbrev pub alone_at : Site → List Instr → Core → Stepped
+abbrev pub alone_at : Site → List Instr → Core → StepResult
 alone_at s program core = step_of s 1 program core empty_interface
 
 -- the request that it sent, if it sent one, acts at once: the cells afterwards, and the processor
@@ -29,7 +29,7 @@ abbrev pub cells_acted : List ℕ → Option Request → List ℕ
 cells_acted cells None = cells
 cells_acted cells (Some r) = slice_set cells r.cell (act r.op (slice_index cells r.cell)).0
 
-abbrev pub core_answered : List ℕ → Stepped → Option Request → Core
+abbrev pub core_answered : List ℕ → StepResult → Option Request → Core
 core_answered cells t None = t.core
 core_answered cells t (Some r) =
     record t.core {
@@ -48,10 +48,10 @@ module _ (c : Settings) where
       }
 
   module _ (program : List Instr) where
-    abbrev pub alone : ℕ → Core → Stepped
+    abbrev pub alone : ℕ → Core → StepResult
     alone p core = alone_at (site c p) program core
 
-    abbrev pub after_alone : Para → ℕ → Stepped → Para
+    abbrev pub after_alone : Para → ℕ → StepResult → Para
     after_alone m p t =
         record {
           cells = cells_acted m.cells t.sent;

@@ -6,7 +6,7 @@ use Rattle.ultra_msg.specs.Act.{act}
 use Rattle.ultra_isa.specs.declared.Instr.{Instr}
 use Rattle.ultra_isa.specs.declared.Step.{Step}
 use Rattle.ultra_isa.specs.declared.Step.TheVariants as step
-use Rattle.ultra_isa.specs.Step.{Core, Stepped, has_stopped}
+use Rattle.ultra_isa.specs.Step.{Core, StepResult, has_stopped}
 use Rattle.ultra_model.specs.Machine.{Settings}
 use Rattle.ultra_para.specs.declared.at_once.StepReport.{StepReport}
 use Rattle.ultra_para.specs.declared.at_once.StepReport.TheVariants.{Nothing, Acted, Faulted}
@@ -18,7 +18,7 @@ fault_in (step.Fault f) = Faulted f
 fault_in s = Nothing
 
 -- of any step: a request that it sent acts on these cells, and gets the reply
-abbrev pub report_with : List ℕ → Stepped → Option Request → StepReport
+abbrev pub report_with : List ℕ → StepResult → Option Request → StepReport
 report_with cells t None = fault_in t.was
 report_with cells t (Some r) = Acted r (act r.op (slice_index cells r.cell)).1
 

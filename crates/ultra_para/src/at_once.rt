@@ -27,9 +27,12 @@ pub(crate) fn step_at_once(
     cells: &mut [Word],
 ) -> StepReport
     requires { processor.old.site.all_cells ≤ length cells.old }
-    ensures processor { let t = alone_at processor.old.site program.now processor.old.core in processor.new ≡ record processor.old { core = core_answered cells.old t t.sent } }
-    ensures cells { cells.new ≡ cells_acted cells.old (alone_at processor.old.site program.now processor.old.core).sent }
-    ensures report { let t = alone_at processor.old.site program.now processor.old.core in result ≡ report_with cells.old t t.sent }
+    ensures processor { let t = alone_at processor.old.site program.now processor.old.core in
+        processor.new ≡ record processor.old { core = core_answered cells.old t t.sent } }
+    ensures cells { cells.new ≡
+        cells_acted cells.old (alone_at processor.old.site program.now processor.old.core).sent }
+    ensures report { let t = alone_at processor.old.site program.now processor.old.core in
+        result ≡ report_with cells.old t t.sent }
 {
     let mut interface = Pni::new(1);
     let step = processor.step(program, &mut interface);

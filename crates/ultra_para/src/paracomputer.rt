@@ -6,7 +6,7 @@ ghost use Rattle.ultra_isa.specs.Step.{has_stopped};
 ghost use Rattle.ultra_model.specs.Machine.{size};
 ghost use Rattle.ultra_para.specs.Para.{core_at, start_para, para_step, run_para};
 ghost use Rattle.ultra_para.specs.Report.{step_report, have_all_stopped as all_stopped};
-ghost use Rattle.ultra_para.specs.Programmed.{fresh_processors as all_fresh, cores_of};
+ghost use Rattle.ultra_para.specs.ParaState.{fresh_processors as all_fresh, cores_of};
 
 use crate::at_once::{StepReport, step_at_once};
 use std::alloc::{AllocError, Global};
@@ -28,13 +28,13 @@ pub struct Para {
 }
 
 impl Model for Para {
-    ghost use Rattle.ultra_para.specs.Programmed.{Programmed, programmed, IsPeopled};
+    ghost use Rattle.ultra_para.specs.ParaState.{ParaState, programmed, HasAllParts};
 
-    ghost Value = { Programmed };
+    ghost Value = { ParaState };
 
     ghost view = { λ m. programmed m.config m.program m.cells.items m.processors.items };
 
-    ghost invariant = { λ m. IsPeopled m.config m.cells.items m.processors.items };
+    ghost invariant = { λ m. HasAllParts m.config m.cells.items m.processors.items };
 }
 
 /// The cells of these settings before the first step.
@@ -73,7 +73,11 @@ impl Para {
     ///
     /// It keeps its own copies. An error says that memory was refused.
     pub fn new(alloc: Global, config: &Config, program: &Program) -> Result<Para, AllocError>
-        ensures { IfOk result (λ m. m ≡ record { settings = config.now; program = program.now; state = start_para config.now }) }
+        ensures { IfOk result (λ m. m ≡ record {
+          settings = config.now;
+          program = program.now;
+          state = start_para config.now;
+        }) }
     {
         Ok(Para {
             config: config.try_clone()?,
@@ -84,10 +88,13 @@ impl Para {
     }
 
     /// One step of a processing element: an instruction, whose request acts on its cell at once. A
-    /// `fence` does nothing; faults are those of the machine. It takes no memory.
+    /// `fence` does nothing; faults are those of the machine. It takes no memory. `pe` has to be
+    /// below the number of processing elements.
     pub fn step(&mut self, pe: Pe)
         requires { pe < size self.old.settings }
-        ensures { self.new ≡ record self.old { state = para_step self.old.settings self.old.program self.old.state pe } }
+        ensures { self.new ≡ record self.old {
+          state = para_step self.old.settings self.old.program self.old.state pe;
+        } }
     {
         let _ = self.observed_step(pe);
     }
@@ -95,7 +102,9 @@ impl Para {
     /// The same as [`step`](Para::step), and says what the step did.
     pub fn observed_step(&mut self, pe: Pe) -> StepReport
         requires { pe < size self.old.settings }
-        ensures state { self.new ≡ record self.old { state = para_step self.old.settings self.old.program self.old.state pe } }
+        ensures state { self.new ≡ record self.old {
+          state = para_step self.old.settings self.old.program self.old.state pe;
+        } }
         ensures report { result ≡ step_report self.old.settings self.old.program self.old.state pe }
     {
         step_at_once(
@@ -106,10 +115,12 @@ impl Para {
     }
 
     /// The steps of a schedule, in its order: each number is the processing element that makes the
-    /// step.
+    /// step, and has to be below their number.
     pub fn run(&mut self, schedule: &[Pe])
         requires { All (λ p. p < size self.old.settings) schedule.now }
-        ensures { self.new ≡ record self.old { state = run_para self.old.settings self.old.program self.old.state schedule.now } }
+        ensures { self.new ≡ record self.old {
+          state = run_para self.old.settings self.old.program self.old.state schedule.now;
+        } }
     {
         for &pe in schedule {
             self.step(pe);
@@ -156,7 +167,8 @@ impl Para {
     /// The word in a register, or `None` where there is no such processing element or the number is
     /// above 15.
     pub fn register(&self, pe: Pe, number: u8) -> Option<Word>
-        ensures value { IfSome result (λ word. word ≡ slice_index (core_at self.now.state pe).registers number) }
+        ensures value { IfSome result (λ word.
+            word ≡ slice_index (core_at self.now.state pe).registers number) }
         ensures known { IsSome result ↔ ((pe < size self.now.settings) × (number < 16)) }
     {
         let processor = self.processors.get(pe as usize)?;

@@ -30,16 +30,17 @@ module _ (c : Settings) (program : List Instr) where
   after_steps ps = run_para c program (start_para c) ps
 
   -- how many of the steps that are made from a state are acts of processing element p
-  unfoldable pub acts_of : ℕ → Para → List ℕ → ℕ
-  acts_of p v [] = 0
-  acts_of p v (q ∷ qs) =
+  unfoldable pub count_of_acts : ℕ → Para → List ℕ → ℕ
+  count_of_acts p v [] = 0
+  count_of_acts p v (q ∷ qs) =
       (if q == p then act_count (step_report c program v q) else 0)
-      + acts_of p (para_step c program v q) qs
+      + count_of_acts p (para_step c program v q) qs
 
   -- the line of a step of processing element p, after other steps
   unfoldable pub next_line : List ℕ → ℕ → List ℕ
   next_line before p =
-      step_line p (acts_of p (start_para c) before) (step_report c program (after_steps before) p)
+      step_line p (count_of_acts p (start_para c) before)
+      (step_report c program (after_steps before) p)
 
   -- the lines of steps, after other steps
   abbrev pub lines_after : List ℕ → List ℕ → List ℕ

@@ -51,7 +51,8 @@ pub fn read_schedule(alloc: Global, bytes: &[u8], size: u32) -> Result<Vec<Pe>, 
 /// Adds the numbers of a line to a schedule. `false` says that the line has a bad word.
 fn push_line(schedule: &mut Vec<Pe>, line: &[u8], size: u32) -> Result<bool, ScheduleFault>
     ensures good { IfOk result (λ good. good ≡ are_pes size line.now) }
-    ensures pushed { result ≡ Ok true → schedule.new.items ≡ schedule.old.items ++ line_pes line.now }
+    ensures pushed { result ≡ Ok true →
+        schedule.new.items ≡ schedule.old.items ++ line_pes line.now }
     ensures memory { IfErr result (λ fault. fault ≡ NoMemory) }
 {
     let code = before_comment(line);

@@ -35,12 +35,13 @@ pub fn write_para<S: Sink>(
     sink: &mut S,
 ) -> Result<(), RunFault>
     requires { All (λ p. p < size config.now) schedule.now }
-    ensures ok { OnOk result (S.taken sink.new ≡ S.taken sink.old ++ para_text config.now
-        program.now only_end schedule.now) }
+    ensures ok { OnOk result (S.taken sink.new ≡
+        S.taken sink.old ++ para_text config.now program.now only_end schedule.now) }
     ensures still { OnOk result (S.failures sink.new ≡ S.failures sink.old) }
     ensures err { OnErr result (TakesPrefix (para_text config.now program.now only_end schedule.now)
         (S.taken sink.old) (S.taken sink.new)) }
-    ensures counted { IfErr result (λ e. S.failures sink.new ≡ S.failures sink.old + sink_faults e) }
+    ensures counted { IfErr result (λ e.
+        S.failures sink.new ≡ S.failures sink.old + sink_faults e) }
     ensures alone { IfErr result (λ e. e ≢ NoThread) }
     ensures memory_first { IfErr result (λ e. e ≡ NoMemory → S.taken sink.new ≡ S.taken sink.old) }
 {
@@ -59,11 +60,12 @@ fn write_run<S: Sink>(
 ) -> Result<(), SinkFault>
     requires there { All (λ p. p < size run.old.para.settings) schedule.now }
     requires start { HasMade run.old.para.settings run.old.para.program [] run.old }
-    ensures ok { OnOk result (S.taken sink.new ≡ S.taken sink.old ++ para_text run.old.para.settings
-        run.old.para.program only_end schedule.now) }
+    ensures ok { OnOk result (S.taken sink.new ≡ S.taken sink.old ++
+        para_text run.old.para.settings run.old.para.program only_end schedule.now) }
     ensures still { OnOk result (S.failures sink.new ≡ S.failures sink.old) }
-    ensures err { OnErr result (TakesPrefix (para_text run.old.para.settings run.old.para.program
-        only_end schedule.now) (S.taken sink.old) (S.taken sink.new)) }
+    ensures err { OnErr result
+        (TakesPrefix (para_text run.old.para.settings run.old.para.program only_end schedule.now)
+        (S.taken sink.old) (S.taken sink.new)) }
     ensures counted { OnErr result (S.failures sink.new ≡ S.failures sink.old + 1) }
 {
     let mut buffer = TextBuffer::new(sink);
@@ -81,8 +83,9 @@ fn put_run<S: Sink>(
 )
     requires there { All (λ p. p < size run.old.para.settings) schedule.now }
     requires start { HasMade run.old.para.settings run.old.para.program [] run.old }
-    ensures { Writes S.taken S.failures (para_text run.old.para.settings run.old.para.program
-        only_end schedule.now) buffer.old buffer.new }
+    ensures { Writes S.taken S.failures
+        (para_text run.old.para.settings run.old.para.program only_end schedule.now)
+        buffer.old buffer.new }
 {
     put_steps(buffer, run, schedule, only_end);
     put_end(buffer, &run.para, schedule.len());
@@ -99,7 +102,8 @@ fn put_steps<S: Sink>(
     requires there { All (λ p. p < size run.old.para.settings) schedule.now }
     requires start { HasMade run.old.para.settings run.old.para.program [] run.old }
     ensures writes { Writes S.taken S.failures (unless_only_end only_end
-        (steps_text run.old.para.settings run.old.para.program schedule.now)) buffer.old buffer.new }
+        (steps_text run.old.para.settings run.old.para.program schedule.now))
+        buffer.old buffer.new }
     ensures made { has_failed buffer.new ≡ false → HasMade run.old.para.settings
         run.old.para.program schedule.now run.new }
 {
@@ -128,14 +132,15 @@ pub fn write_seeded<S: Sink>(
     only_end: bool,
     sink: &mut S,
 ) -> Result<(), RunFault>
-    ensures ok { OnOk result (S.taken sink.new ≡ S.taken sink.old ++ para_text config.now
-        program.now only_end (seeded_schedule config.now program.now seed
-        (most_steps config.now steps))) }
+    ensures ok { OnOk result
+        (S.taken sink.new ≡ S.taken sink.old ++ para_text config.now program.now only_end
+        (seeded_schedule config.now program.now seed (most_steps config.now steps))) }
     ensures still { OnOk result (S.failures sink.new ≡ S.failures sink.old) }
     ensures err { OnErr result (TakesPrefix (para_text config.now program.now only_end
         (seeded_schedule config.now program.now seed (most_steps config.now steps)))
         (S.taken sink.old) (S.taken sink.new)) }
-    ensures counted { IfErr result (λ e. S.failures sink.new ≡ S.failures sink.old + sink_faults e) }
+    ensures counted { IfErr result (λ e.
+        S.failures sink.new ≡ S.failures sink.old + sink_faults e) }
     ensures alone { IfErr result (λ e. e ≢ NoThread) }
     ensures memory_first { IfErr result (λ e. e ≡ NoMemory → S.taken sink.new ≡ S.taken sink.old) }
 {
@@ -159,9 +164,9 @@ fn write_drawn<S: Sink>(
     requires few { stages ≤ 6 }
     requires stages { stages ≡ run.old.para.settings.stages }
     requires start { HasMade run.old.para.settings run.old.para.program [] run.old }
-    ensures ok { OnOk result (S.taken sink.new ≡ S.taken sink.old ++ para_text run.old.para.settings
-        run.old.para.program only_end (seeded_schedule run.old.para.settings run.old.para.program
-        seed most)) }
+    ensures ok { OnOk result (S.taken sink.new ≡
+        S.taken sink.old ++ para_text run.old.para.settings run.old.para.program only_end
+        (seeded_schedule run.old.para.settings run.old.para.program seed most)) }
     ensures still { OnOk result (S.failures sink.new ≡ S.failures sink.old) }
     ensures err { OnErr result (TakesPrefix (para_text run.old.para.settings run.old.para.program
         only_end (seeded_schedule run.old.para.settings run.old.para.program seed most))
@@ -188,8 +193,8 @@ fn put_drawn_run<S: Sink>(
     requires stages { stages ≡ run.old.para.settings.stages }
     requires start { HasMade run.old.para.settings run.old.para.program [] run.old }
     ensures { Writes S.taken S.failures (para_text run.old.para.settings run.old.para.program
-        only_end (seeded_schedule run.old.para.settings run.old.para.program seed most)) buffer.old
-        buffer.new }
+        only_end (seeded_schedule run.old.para.settings run.old.para.program seed most))
+        buffer.old buffer.new }
 {
     let made = put_drawn(buffer, run, stages, seed, most, only_end);
     put_end(buffer, &run.para, made as usize);
@@ -220,10 +225,10 @@ fn put_drawn<S: Sink>(
     requires few { stages ≤ 6 }
     requires stages { stages ≡ run.old.para.settings.stages }
     requires start { HasMade run.old.para.settings run.old.para.program [] run.old }
-    ensures writes { Writes S.taken S.failures (unless_only_end only_end
-        (steps_text run.old.para.settings run.old.para.program
-        (seeded_schedule run.old.para.settings run.old.para.program seed most))) buffer.old
-        buffer.new }
+    ensures writes { Writes S.taken S.failures
+        (unless_only_end only_end (steps_text run.old.para.settings run.old.para.program
+        (seeded_schedule run.old.para.settings run.old.para.program seed most)))
+        buffer.old buffer.new }
     ensures made { has_failed buffer.new ≡ false → HasMade run.old.para.settings
         run.old.para.program (seeded_schedule run.old.para.settings run.old.para.program seed most)
         run.new }

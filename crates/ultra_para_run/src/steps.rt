@@ -98,9 +98,13 @@ fn put_act<S: Sink>(
     request: Request,
     reply: Reply,
 )
-    ensures { Writes S.taken S.failures (order_line (record
-        { pe = pe; number = number; cell = request.cell; op = request.op; reply = reply }))
-        buffer.old buffer.new }
+    ensures { Writes S.taken S.failures (order_line (record {
+      pe = pe;
+      number = number;
+      cell = request.cell;
+      op = request.op;
+      reply = reply;
+    })) buffer.old buffer.new }
 {
     buffer.put_number(pe);
     buffer.put(b".");
@@ -114,8 +118,8 @@ fn put_act<S: Sink>(
 
 /// Writes the line of a fault, as `fault 1 f2`.
 fn put_fault<S: Sink>(buffer: &mut TextBuffer<'_, S>, pe: Pe, fault: MachineFault)
-    ensures { Writes S.taken S.failures (fault_line (record { pe = pe; fault = fault })) buffer.old
-        buffer.new }
+    ensures { Writes S.taken S.failures
+        (fault_line (record { pe = pe; fault = fault })) buffer.old buffer.new }
 {
     buffer.put(b"fault ");
     buffer.put_number(pe);

@@ -17,4 +17,4 @@ pub use Rattle.ultra_switch.specs.Arrive.{Lane, arrive}
 pub use Rattle.ultra_topology.proofs.Set.{none_there}
 pub use Rattle.ultra_topology.specs.{Inlets.at_both, Numbers.element_number, Numbers.module_number, Numbers.link_number, Numbers.switch_count, Numbers.switch_number, Numbers.unit_count, Set.has_unit, declared.unit.Unit.Unit}
 pub use Rattle.ultra_partition.specs.{Cut.BlockState, Cut.IsCut, Cut.block_at, Cut.first, Cut.frame_of, Cut.value_or, Cut.home, Cut.no_block, Cut.no_element, Cut.no_switch, Events.event_rank, Events.stop_rank, Exchange.AreSingle, Exchange.AreThere, Exchange.HasNoneFor, Exchange.MessageKind, Exchange.MessageOf, Exchange.OnlyMove, Exchange.Replies, Exchange.Requests, Exchange.carried, Exchange.inlets, Exchange.message_on, Exchange.on_each, Exchange.link_table, Exchange.with_link_table, Halves.AllCanMake, Halves.AreBlocks, Halves.AreBlocksAfter, Halves.AreMerged, Halves.AreNamed, Halves.AreReady, Halves.AreRooms, Halves.CanMakeLaw, Halves.CanMakeTogether, Halves.Execute, Halves.Half, Halves.HalfLaw, Halves.HasHalfRoom, Halves.HaveLeft, Halves.HaveMade, Halves.HaveStopped, Halves.InRanks, Halves.MergedLaw, Halves.OfEach, Halves.SendReplies, Halves.SendRequests, Halves.Serve, Halves.TakeReplies, Halves.TakeRequests, Halves.all_after_half, Halves.all_after_own_half, Halves.cycles_made, Halves.events_in, Halves.first_rank, Halves.frame_after, Halves.listed_before, Halves.rank_after, Holding.IsSetOfAll, Holding.holds, Holding.stage_holds, Moments.AreMachine, Moments.AreRoomsOfAll, Moments.AreWhole, Moments.machine_in}
-unfoldable pub use Rattle.{ultra_cycle_law.specs.Whole.whole, ultra_partition.specs.Merging.merged, ultra_model.specs.Phases.cycle, ultra_model.specs.Places.places, ultra_route.proofs.Table.all_below, ultra_block_core.proofs.Once.entries_before, ultra_partition.specs.Events.events_of, ultra_partition.specs.Events.stops_of}
+unfoldable pub use Rattle.{ultra_cycle_law.specs.Whole.whole, ultra_partition.specs.Merging.merged, ultra_model.specs.Phases.cycle, ultra_model.specs.Places.places, ultra_route.proofs.Table.all_below, ultra_block_core.proofs.Once.entries_before, ultra_partition.specs.Events.merged_events, ultra_partition.specs.Events.merged_stops}

@@ -291,7 +291,7 @@ module _ (d n : ℕ) (rooms : BlockRooms) (program : List Instr) where
 
     listed : (half : Half) → AreReady d partition n program bs half → AreNamed d partition n program bs half
         → AreMerged (event_rank d) (first_rank half) (rank_after half) (events_by half) bs (events_in d n rooms program f half)
-    unfolding course.deliveries course.servings course.combinations course.issues
+    unfolding course.delivery_events course.servings course.combinations course.issues
     listed TakeReplies there names =
         rw (← joined_present) (part _ _ _ blocks (event_rank d) 0 (switch_count d + 2 ^ d) (omega arith) elements (on Replies (updates TakeReplies).element on_one) (updates TakeReplies).element.events _ 320 (omega (arith, few))
         (λ p small. (ap (λ o. present (delivery o ∷ [])) (sym (end_there Replies _ _ _ blocks.cut there p small)), (let it = names p small in grind arith))) (grind (arith, few, unit_of_element)))

@@ -1,7 +1,7 @@
 -- What blocks list, merged by rank. First, lists joined, one for each place, and what several blocks list. Then, what the units
 -- of a sort list in all blocks is what they list in the whole machine, and each block lists it in the order of the ranks.
 use Rattle.std.proofs.Common.{◌≡◌, ◌≢◌, ℕ, zero, suc, ◌+◌, ◌<◌, List, [], ◌∷◌, ◌++◌, map, Option, length, length-append, refl, sym, ◌∙◌, ap, inl, inr, arith, ◌≤◌, ◌-◌, ◌/◌, min, append-nil}
-use Rattle.ultra_partition.proofs.Common.{cases_lt, get_or-append_right, get_or_append_left, All-from_recursion, filter-append, AllByRecursion, range_with_len, present, each-append, same_places, joined_next, joined_none, block_at, BlockState, value_or, home, AreMerged, InRanks, AreBlocks, MergedLaw, Lane, arrive, combinations, switch_number, combinations_of, Request, Ports, Switch, event_rank, stop_rank, places, joined, merged, of_rank, merged_alone, of_rank_none, events_of, stops_of, list_of, entries_before}
+use Rattle.ultra_partition.proofs.Common.{cases_lt, get_or-append_right, get_or_append_left, All-from_recursion, filter-append, AllByRecursion, range_with_len, present, each-append, same_places, joined_next, joined_none, block_at, BlockState, value_or, home, AreMerged, InRanks, AreBlocks, MergedLaw, Lane, arrive, combinations, switch_number, combinations_of, Request, Ports, Switch, event_rank, stop_rank, places, joined, merged, of_rank, merged_alone, of_rank_none, merged_events, merged_stops, list_of, entries_before}
 use Rattle.ultra_partition.proofs.{Columns.same_entries, Units.Sort, Units.at_home, Units.away, Units.home_small}
 
 -- what units list, in order, where only n of them behind others list anything
@@ -141,6 +141,6 @@ module _ (d : ℕ) (partition : List ℕ) (bs : List BlockState) (blocks : AreBl
         (first_listed are (sort.count d) high (omega arith) to)
 
 pub merged_law : MergedLaw
-unfolding events_of stops_of
+unfolding merged_events merged_stops
 merged_law d bs events stops listed stopped =
     (all_merged (event_rank d) 1280 (λ b. b.events) bs events listed, all_merged stop_rank 64 (λ b. b.stops) bs stops stopped, λ k h. record { events = (listed.each k h).ranked; stops = (stopped.each k h).ranked })

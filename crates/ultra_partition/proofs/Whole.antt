@@ -1,7 +1,7 @@
 -- A cycle of blocks that are a whole machine, half by half. What is known of the blocks before a half meets its conditions,
 -- and gives what is known of them after it. After the last half they are the machine after one cycle of the definition.
 use Rattle.std.proofs.Common.{◌≡◌, ℕ, ◌+◌, ◌*◌, ◌<◌, ◌≤◌, List, [], ◌∷◌, refl, ◌++◌, ◌∙◌, length, arith, ◌^◌, ap, ◌-◌}
-use Rattle.ultra_partition.proofs.Common.{Rooms, all_open, AreAlike, Frame, IsClear, Event, Instr, Stop, IsFrameOf, Settings, Machine, IsCut, frame_of, BlockState, OnlyMove, AreThere, AreSingle, MessageKind, Replies, Requests, all_after_half, all_after_own_half, AllCanMake, AreBlocks, AreMerged, AreNamed, AreReady, AreRooms, append-nil, cycles_made, frame_after, listed_before, rank_after, first_rank, HaveMade, HaveStopped, events_in, OfEach, Half, SendReplies, TakeReplies, Serve, SendRequests, TakeRequests, Execute, event_rank, events_of, stops_of, AreMachine, AreRoomsOfAll, AreWhole, machine_in, cycle, memory_phase, processor_phase, reply_phase, request_phase, delivered_well}
+use Rattle.ultra_partition.proofs.Common.{Rooms, all_open, AreAlike, Frame, IsClear, Event, Instr, Stop, IsFrameOf, Settings, Machine, IsCut, frame_of, BlockState, OnlyMove, AreThere, AreSingle, MessageKind, Replies, Requests, all_after_half, all_after_own_half, AllCanMake, AreBlocks, AreMerged, AreNamed, AreReady, AreRooms, append-nil, cycles_made, frame_after, listed_before, rank_after, first_rank, HaveMade, HaveStopped, events_in, OfEach, Half, SendReplies, TakeReplies, Serve, SendRequests, TakeRequests, Execute, event_rank, merged_events, merged_stops, AreMachine, AreRoomsOfAll, AreWhole, machine_in, cycle, memory_phase, processor_phase, reply_phase, request_phase, delivered_well}
 use Rattle.ultra_cycle_law.proofs.Phases as step
 use Rattle.ultra_partition.proofs.{Halves.all_by_own, Halves.can_make_law, Halves.half_law, Moved.alike, Moved.nothing_moved, Moved.still_blocks, Happenings.merged_law, Happenings.nothing_listed, Happenings.same_listed}
 
@@ -100,7 +100,7 @@ module _ {c : Settings} {partition : List ℕ} {n : ℕ} {program : List Instr} 
   replies_left rooms {now = now} all made =
       let before : Before SendReplies [] start = grind (arith, whole.machine.runs, whole.machine.done, nothing_listed (event_rank d) 0 0 (λ b. []) start (λ k h. refl)) in
       let at : At 0 [] now = at_made SendReplies rooms before made whole.clear.replies refl (λ none. none) tt in
-      let was : IsClearFrame first (events_of d start) (f start) = record { faults = stops_of d start; machine = whole.machine.machine; clear = whole.clear } in
+      let was : IsClearFrame first (merged_events d start) (f start) = record { faults = merged_stops d start; machine = whole.machine.machine; clear = whole.clear } in
       search (half_made SendReplies rooms before made whole.clear.replies)
 
   pub requests_left : (rooms : Rooms) {bs now : List BlockState} → AreRoomsOfAll bs rooms → now ≡ all_after_own_half SendRequests rooms bs → Made 640 middle bs → Left Requests now
@@ -177,8 +177,8 @@ module _ {c : Settings} {partition : List ℕ} {n : ℕ} {program : List Instr} 
     next {now = now} made =
         let steps = half_made Execute all_open x.at (made ∙ all_by_own program Execute all_open bs can_execute) tt in
         let all = merged_law d now _ _ (steps.events (λ p hp. ap (λ s. s.pe) (x.frame.machine.fits.sites p hp)) x.events x.at.listed) (steps.stops x.at.no_stops) in
-        let machine : IsFrameOf c (n + 1) (f now) (events_of d now) (stops_of d now) (processor_phase c program (request_phase c middle)) = rw (all.0, all.1) (step.stepped c n _ _ _ _ x.frame.machine program _ steps.frame) in
-        let together : AreMachine c program partition (n + 1) (events_of d now) (stops_of d now) (machine_in c partition (n + 1) now) now = grind (arith, x.at.runs, x.at.done, steps.blocks, rw (← machine.machine) at machine) in
+        let machine : IsFrameOf c (n + 1) (f now) (merged_events d now) (merged_stops d now) (processor_phase c program (request_phase c middle)) = rw (all.0, all.1) (step.stepped c n _ _ _ _ x.frame.machine program _ steps.frame) in
+        let together : AreMachine c program partition (n + 1) (merged_events d now) (merged_stops d now) (machine_in c partition (n + 1) now) now = grind (arith, x.at.runs, x.at.done, steps.blocks, rw (← machine.machine) at machine) in
         (record { machine = together; clear = grind arith; in_order = all.2 }, machine.machine)
 
 pub ruleset stages = (replies_left, requests_left, left_cut, left_single, come, can_take_replies, replies_taken, can_serve, served, can_take_requests, requests_taken, can_execute, next)

@@ -22,12 +22,12 @@ abbrev pub stop_rank : Stop → ℕ
 stop_rank s = s.pe
 
 -- the events of all blocks, in that order; those of one unit in the order in which they happened
-unfoldable pub events_of : ℕ → List BlockState → List Event
-events_of d bs = merged (event_rank d) event_rank_count (map (λ b. b.events) bs)
+unfoldable pub merged_events : ℕ → List BlockState → List Event
+merged_events d bs = merged (event_rank d) event_rank_count (map (λ b. b.events) bs)
 
 -- their faults
-unfoldable pub stops_of : ℕ → List BlockState → List Stop
-stops_of d bs = merged stop_rank 64 (map (λ b. b.stops) bs)
+unfoldable pub merged_stops : ℕ → List BlockState → List Stop
+merged_stops d bs = merged stop_rank 64 (map (λ b. b.stops) bs)
 
 -- a block of a machine of d stages has events in the order of the rules, and stops by processing
 -- element

@@ -1,8 +1,8 @@
 -- what each half of a cycle does to a machine cut into blocks, what it asks, and what blocks list
 -- in it
 use Rattle.std.specs.Prelude.{◌≡◌, ℕ, ◌+◌, ◌<◌, ◌≤◌, List, length, map, ◌-◌, ◌*◌, ◌^◌, [], None, ◌++◌, All}
-use Rattle.ultra_partition.specs.Prelude.{Rooms as BlockRooms, most_events, Frame, AreClosedToReplies, AreClosedToRequests, AreAlike, ReplyMessage, executes, sends_replies, sends_requests, serves, takes_replies, takes_requests, reply_to, deliveries, servings, combinations, issues, stops, Event, Instr, Stop, IsRanked, of_rank, ForSome, joined, IsShaped, CanMake, after_half, after_own_half, CanExecute, CanTakeReplies, CanTakeRequests}
-use Rattle.ultra_partition.specs.{Events.event_rank_count, Cut.IsCut, Cut.block_at, Cut.frame_of, Cut.first, Cut.BlockState, Exchange.AreThere, Exchange.AreSingle, Exchange.on_each, Exchange.MessageKind, Exchange.Replies, Exchange.Requests, Events.IsInOrder, Events.event_rank, Events.events_of, Events.stop_rank, Events.stops_of}
+use Rattle.ultra_partition.specs.Prelude.{Rooms as BlockRooms, most_events, Frame, AreClosedToReplies, AreClosedToRequests, AreAlike, ReplyMessage, executes, sends_replies, sends_requests, serves, takes_replies, takes_requests, reply_to, delivery_events, servings, combinations, issues, stops, Event, Instr, Stop, IsRanked, of_rank, ForSome, joined, IsShaped, CanMake, after_half, after_own_half, CanExecute, CanTakeReplies, CanTakeRequests}
+use Rattle.ultra_partition.specs.{Events.event_rank_count, Cut.IsCut, Cut.block_at, Cut.frame_of, Cut.first, Cut.BlockState, Exchange.AreThere, Exchange.AreSingle, Exchange.on_each, Exchange.MessageKind, Exchange.Replies, Exchange.Requests, Events.IsInOrder, Events.event_rank, Events.merged_events, Events.stop_rank, Events.merged_stops}
 pub use Rattle.ultra_block_core.specs.declared.half.Half.{Half, TheVariants.SendReplies, TheVariants.TakeReplies, TheVariants.Serve, TheVariants.SendRequests, TheVariants.TakeRequests, TheVariants.Execute}
 use Rattle.ultra_topology.specs.declared.TheConstants.{MOST_UNITS}
 
@@ -58,7 +58,7 @@ module _ (d n : ℕ) (rooms : BlockRooms) (program : List Instr) (f : Frame) whe
 
   -- the events, in the order of the rules
   abbrev pub events_in : Half → List Event
-  events_in TakeReplies = deliveries d f
+  events_in TakeReplies = delivery_events d f
   events_in Serve = servings d f
   events_in TakeRequests = combinations d n f
   events_in Execute = issues d program f
@@ -192,4 +192,4 @@ MergedLaw =
     (d : ℕ) (bs : List BlockState) (events : List Event) (stops : List Stop)
     → AreMerged (event_rank d) 0 event_rank_count (λ b. b.events) bs events
     → AreMerged stop_rank 0 64 (λ b. b.stops) bs stops
-    → (events_of d bs ≡ events) × (stops_of d bs ≡ stops) × OfEach (IsInOrder d) bs
+    → (merged_events d bs ≡ events) × (merged_stops d bs ≡ stops) × OfEach (IsInOrder d) bs

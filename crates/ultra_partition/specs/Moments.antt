@@ -1,7 +1,7 @@
 -- a machine cut into blocks in the course of a cycle, and what is asked of it, however it is cut
 use Rattle.std.specs.Prelude.{◌≡◌, ℕ, List, Bool}
 use Rattle.ultra_partition.specs.Prelude.{is_quiet, Rooms, IsClear, IsFrameOf, whole, Settings, Machine, Event, Instr, Stop}
-use Rattle.ultra_partition.specs.{Cut.frame_of, Cut.BlockState, Halves.AreBlocks, Halves.AreRooms, Halves.OfEach, Events.IsInOrder, Events.events_of, Events.stops_of}
+use Rattle.ultra_partition.specs.{Cut.frame_of, Cut.BlockState, Halves.AreBlocks, Halves.AreRooms, Halves.OfEach, Events.IsInOrder, Events.merged_events, Events.merged_stops}
 
 -- each block runs the program and has made n cycles, and together they are the machine m, in which
 -- this has happened in the cycle so far
@@ -15,7 +15,8 @@ pub record AreMachine (c : Settings) (program : List Instr) (partition : List �
 -- the machine that blocks make up after n cycles
 abbrev pub machine_in : Settings → List ℕ → ℕ → List BlockState → Machine
 machine_in c partition n bs =
-    whole c (frame_of c.stages partition bs) n (events_of c.stages bs) (stops_of c.stages bs)
+    whole c (frame_of c.stages partition bs) n (merged_events c.stages bs)
+    (merged_stops c.stages bs)
 
 -- between two cycles: each block runs the program and has made n cycles. The blocks make up a
 -- machine that is sound. No message is on a link, and each block lists what happened last in the
@@ -23,7 +24,7 @@ machine_in c partition n bs =
 pub record AreWhole (c : Settings) (program : List Instr) (partition : List ℕ) (n : ℕ)
     (bs : List BlockState) : Type 0 where
   pub machine :
-      AreMachine c program partition n (events_of c.stages bs) (stops_of c.stages bs)
+      AreMachine c program partition n (merged_events c.stages bs) (merged_stops c.stages bs)
       (machine_in c partition n bs) bs
   pub clear : IsClear c.stages (frame_of c.stages partition bs)
   pub in_order : OfEach (IsInOrder c.stages) bs

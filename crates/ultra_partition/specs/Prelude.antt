@@ -1,7 +1,7 @@
 -- The words of the crates below that contracts and definitions here use. Those of std's own prelude
 -- come from there.
 pub use Rattle.std.specs.{List.list_all, Option.ForSome}
-pub use Rattle.ultra_cycle_law.specs.{Course.Event, Course.Instr, Course.Stop, Course.combinations, Course.deliveries, Course.executes, Course.issues, Course.reply_to, Course.sends_replies, Course.sends_requests, Course.serves, Course.servings, Course.stops, Course.takes_replies, Course.takes_requests, Frame.AreAlike, Frame.AreClosedToReplies, Frame.AreClosedToRequests, Frame.Frame, Frame.IsClear, Frame.Ports, Frame.ProcessingElement, Frame.ReplyMessage, Frame.Request, Frame.Switch, Law.CanExecute, Law.CanTakeReplies, Law.CanTakeRequests, Whole.IsFrameOf, Whole.Machine, Whole.Settings, Whole.whole}
+pub use Rattle.ultra_cycle_law.specs.{Course.Event, Course.Instr, Course.Stop, Course.combinations, Course.delivery_events, Course.executes, Course.issues, Course.reply_to, Course.sends_replies, Course.sends_requests, Course.serves, Course.servings, Course.stops, Course.takes_replies, Course.takes_requests, Frame.AreAlike, Frame.AreClosedToReplies, Frame.AreClosedToRequests, Frame.Frame, Frame.IsClear, Frame.Ports, Frame.ProcessingElement, Frame.ReplyMessage, Frame.Request, Frame.Switch, Law.CanExecute, Law.CanTakeReplies, Law.CanTakeRequests, Whole.IsFrameOf, Whole.Machine, Whole.Settings, Whole.whole}
 pub use Rattle.ultra_unit_steps.specs.Halves.{has_none, ports}
 pub use Rattle.ultra_isa.specs.Step.{fresh_core}
 pub use Rattle.ultra_mem.specs.Serve.{empty_module}

@@ -44,8 +44,8 @@ fn is_each_quiet(blocks: &[Block]) -> bool
     blocks.iter().all(|block| block.is_quiet())
 }
 
-/// Whether nothing is left to do in the whole machine, however it is cut. By a first look, some
-/// processing element has often yet to stop.
+/// Whether nothing is left to do in the whole machine, however it is cut. It first asks whether
+/// some processing element has yet to stop, which is quick and mostly true.
 #[inline(always)]
 #[tactic(auto, using(crate::proofs::Questions::quiet_is, std::proofs::lemmas::List::Folds::list_all_at))]
 pub fn are_quiet(blocks: &[Block]) -> bool

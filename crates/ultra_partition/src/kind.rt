@@ -1,6 +1,6 @@
 //! The two kinds of messages.
 
-/// What goes from unit to unit.
+/// A kind of message that goes from unit to unit.
 #[derive(Clone, Copy, Drop)]
 pub enum MessageKind {
     /// From memory to processing elements.

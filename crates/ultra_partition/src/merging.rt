@@ -43,9 +43,11 @@ impl<'a, T, R: Ranking<T>> Model for Merge<'a, T, R> {
 
     ghost coded = { remainder_code R.code T.code };
 
-    ghost view = { λ m. record { ranking = m.ranking; lists = map (λ list. list.now) m.lists.items } };
+    ghost view = { λ m.
+        record { ranking = m.ranking; lists = map (λ list. list.now) m.lists.items } };
 
-    ghost invariant = { λ m. All (λ list. IsRanked (R.rank_of m.ranking) (R.rank_count m.ranking) list.now) m.lists.items };
+    ghost invariant = { λ m. All
+        (λ list. IsRanked (R.rank_of m.ranking) (R.rank_count m.ranking) list.now) m.lists.items };
 }
 
 /// The list whose first entry comes next, as far as the lists were looked at, and that entry's
@@ -71,7 +73,8 @@ impl<'a, T, R: Ranking<T>> Merge<'a, T, R> {
     /// Adds a list, behind the others.
     pub fn add(&mut self, list: &'a [T])
         requires room { length self.old.lists < MOST_LISTS }
-        requires ranked { IsRanked (R.rank_of self.old.ranking) (R.rank_count self.old.ranking) list.now }
+        requires ranked { IsRanked (R.rank_of self.old.ranking)
+            (R.rank_count self.old.ranking) list.now }
         ensures ranking { self.new.ranking ≡ self.old.ranking }
         ensures lists { self.new.lists ≡ self.old.lists ++ list.now ∷ [] }
     {
@@ -82,7 +85,8 @@ impl<'a, T, R: Ranking<T>> Merge<'a, T, R> {
     /// rank.
     #[tactic(auto, using(crate::proofs::Merged::past_empty))]
     fn front(&self) -> Option<Front>
-        ensures { IsFront (R.rank_of self.now.ranking) self.now.lists (length self.now.lists) result }
+        ensures { IsFront (R.rank_of self.now.ranking) self.now.lists
+            (length self.now.lists) result }
     {
         let mut front: Option<Front> = None;
         for (place, list) in self.lists.iter().enumerate() {

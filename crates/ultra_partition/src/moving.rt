@@ -12,8 +12,10 @@ use ultra_route::Net;
 /// The first unit from `from` on that isn't in this block and to which messages may lead from it.
 #[inline(always)]
 fn next_target_elsewhere(block: &Block, kind: MessageKind, from: usize) -> Option<usize>
-    ensures some { IfSome result (λ n. IsNextAway (link_table kind block.now) (inlets kind block.now.stages) block.now from n) }
-    ensures none { IfNone result (AllStayWithin (link_table kind block.now) (inlets kind block.now.stages) block.now from MOST_UNITS) }
+    ensures some { IfSome result (λ n.
+        IsNextAway (link_table kind block.now) (inlets kind block.now.stages) block.now from n) }
+    ensures none { IfNone result (AllStayWithin (link_table kind block.now)
+        (inlets kind block.now.stages) block.now from MOST_UNITS) }
 {
     match kind {
         MessageKind::Replies => block.next_reply_target_elsewhere(from),
@@ -24,7 +26,7 @@ fn next_target_elsewhere(block: &Block, kind: MessageKind, from: usize) -> Optio
 /// Moves the messages in block `from` that lead to a unit of another block to that block.
 #[inline(never)]
 #[tactic(auto, using(crate::proofs::Moved::nothing_moved))]
-fn move_home(
+fn move_messages(
     blocks: &mut [Block],
     partition: &[u8],
     kind: MessageKind,
@@ -36,11 +38,14 @@ fn move_home(
     requires unit { unit < MOST_UNITS }
     requires home { unit < length partition.now → home partition.now unit < length blocks.old }
     requires from_stages { (block_at blocks.old from).stages ≡ net }
-    requires home_stages { unit < length partition.now → (block_at blocks.old (home partition.now unit)).stages ≡ net }
+    requires home_stages { unit < length partition.now →
+        (block_at blocks.old (home partition.now unit)).stages ≡ net }
     requires single { AreSingle kind blocks.old }
     ensures only { OnlyMove kind blocks.old blocks.new }
-    ensures gone { unit < length partition.now → HasNoneFor kind net partition.now blocks.new from unit }
-    ensures kept { (k n : ℕ) → HasNoneFor kind net partition.now blocks.old k n → HasNoneFor kind net partition.now blocks.new k n }
+    ensures gone { unit < length partition.now →
+        HasNoneFor kind net partition.now blocks.new from unit }
+    ensures kept { (k n : ℕ) → HasNoneFor kind net partition.now blocks.old k n →
+        HasNoneFor kind net partition.now blocks.new k n }
 {
     // for the prover: a network has 1 to `MOST_STAGES` stages
     let _stages = net.stages();
@@ -69,6 +74,8 @@ fn move_home(
 
 /// Moves each message of a kind to the block of the unit to which it leads; nothing else changes. A
 /// block whose messages all lead to its own units is skipped.
+///
+/// The blocks have to be those of the partition, and no link may have messages in two blocks.
 #[inline(always)]
 #[tactic(auto, using(crate::proofs::Moved::nothing_moved))]
 pub fn exchange(blocks: &mut [Block], partition: &[u8], kind: MessageKind, net: Net)
@@ -82,7 +89,7 @@ pub fn exchange(blocks: &mut [Block], partition: &[u8], kind: MessageKind, net: 
     for from in 0..blocks.len() {
         let mut next = 0;
         while let Some(unit) = next_target_elsewhere(&blocks[from], kind, next) {
-            move_home(blocks, partition, kind, net, from, unit);
+            move_messages(blocks, partition, kind, net, from, unit);
             next = unit + 1;
         }
     }

@@ -7,10 +7,10 @@ abbrev pub no_request : Request
 no_request = record { pe = 0; cell = 0; op = Load }
 
 -- n requests, from a place on, and from the last place on to the first again
-abbrev pub requests_from : List Request → ℕ → ℕ → List Request
-requests_from places first zero = []
-requests_from places first (suc n) =
-    slice_index_or places (first % 8) no_request ∷ requests_from places (first + 1) n
+abbrev pub requests_in_ring : List Request → ℕ → ℕ → List Request
+requests_in_ring places first zero = []
+requests_in_ring places first (suc n) =
+    slice_index_or places (first % 8) no_request ∷ requests_in_ring places (first + 1) n
 
 pub record IsRing (first count : ℕ) : Type 0 where
   pub starts : first < 8

@@ -11,7 +11,7 @@ mod registers;
 mod ring;
 
 use arrayvec::ArrayVec;
-use registers::{Registers, awaited_by};
+use registers::{RegisterSet, awaited_by};
 use ring::RequestRing;
 use std::marker::Model;
 use ultra_msg::{Cell, Register, ReplyMessage, Request, RequestPacket, take_out};
@@ -51,7 +51,7 @@ pub struct Pni {
     pending: RequestRing,
     most_open: usize,
     // the registers to which the replies for open cells go
-    awaited: Registers,
+    awaited: RegisterSet,
 }
 
 impl Model for Pni {
@@ -60,9 +60,18 @@ impl Model for Pni {
 
     ghost Value = { SizedInterface };
 
-    ghost view = { λ p. record { interface = record { opened = p.opened.items; pending = p.pending }; most_open = p.most_open } };
+    ghost view = { λ p. record {
+      interface = record {
+        opened = p.opened.items;
+        pending = p.pending;
+      };
+      most_open = p.most_open;
+    } };
 
-    ghost invariant = { λ p. IsConsistentPni record { opened = p.opened.items; pending = p.pending } p.most_open p.awaited };
+    ghost invariant = { λ p. IsConsistentPni record {
+      opened = p.opened.items;
+      pending = p.pending;
+    } p.most_open p.awaited };
 }
 
 /// The place of a cell among the open ones, or `None` where it isn't open.
@@ -83,7 +92,7 @@ impl Pni {
             opened: ArrayVec::new(),
             pending: RequestRing::new(),
             most_open,
-            awaited: Registers::none(),
+            awaited: RegisterSet::empty(),
         }
     }
 
@@ -95,7 +104,8 @@ impl Pni {
     #[inline(always)]
     pub fn issue(&mut self, request: Request, target: Option<Register>) -> Issue
         ensures answer { result ≡ issue_of self.old.most_open self.old.interface request }
-        ensures interface { self.new ≡ record self.old { interface = after_issue self.old.interface request target result } }
+        ensures interface { self.new ≡
+            record self.old { interface = after_issue self.old.interface request target result } }
     {
         if self.is_open(request.cell) {
             return Issue::CellOpen;
@@ -154,7 +164,11 @@ impl Pni {
     pub fn deliver(&mut self, reply: ReplyMessage) -> Option<Register>
         requires { CanDeliver reply.cell self.old.interface }
         ensures target { result ≡ target_of reply.cell self.old.interface.opened }
-        ensures interface { self.new ≡ record self.old { interface = record self.old.interface { opened = closed reply.cell self.old.interface.opened } } }
+        ensures interface { self.new ≡ record self.old {
+          interface = record self.old.interface {
+            opened = closed reply.cell self.old.interface.opened;
+          };
+        } }
     {
         let place = place_of(self.opened.as_slice(), reply.cell).unwrap();
         let closed = take_out(&mut self.opened, place);
@@ -172,7 +186,8 @@ impl Pni {
     /// Whether a request for the cell would be refused now: its cell is open, or the maximum number
     /// of cells is already open.
     pub fn refuses(&self, cell: Cell) -> bool
-        ensures { (r : Request) → r.cell ≡ cell → result ≡ is_refusal (issue_of self.now.most_open self.now.interface r) }
+        ensures { (r : Request) → r.cell ≡ cell →
+            result ≡ is_refusal (issue_of self.now.most_open self.now.interface r) }
     {
         self.is_open(cell) || self.opened.len() >= self.most_open
     }
@@ -210,7 +225,8 @@ impl Pni {
 
     /// Whether no cell is open and no request is pending.
     pub fn is_idle(&self) -> bool
-        ensures { result ≡ (length self.now.interface.opened == 0 && length self.now.interface.pending == 0) }
+        ensures { result ≡
+            (length self.now.interface.opened == 0 && length self.now.interface.pending == 0) }
     {
         self.opened.is_empty() && self.pending.len() == 0
     }
@@ -225,7 +241,8 @@ impl Pni {
 
     /// The request that was issued last of those that are pending, or `None` where none is.
     pub fn newest(&self) -> Option<Request>
-        ensures { result ≡ slice_get self.now.interface.pending (length self.now.interface.pending - 1) }
+        ensures { result ≡
+            slice_get self.now.interface.pending (length self.now.interface.pending - 1) }
     {
         let last = self.pending.len().checked_sub(1)?;
         Some(self.pending.at(last).request())

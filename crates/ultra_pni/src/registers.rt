@@ -11,11 +11,11 @@ use ultra_msg::Register;
 /// Some of the registers of a processing element: bit r of the word says whether register r is one
 /// of them.
 #[derive(Clone, Copy, Drop)]
-pub(crate) struct Registers {
+pub(crate) struct RegisterSet {
     word: u32,
 }
 
-impl Model for Registers {
+impl Model for RegisterSet {
     ghost use Rattle.std.specs.Prelude.{ℕ, ◌^◌, ◌<◌};
 
     ghost Value = { ℕ };
@@ -27,12 +27,12 @@ impl Model for Registers {
     ghost inverse = { λ word. record { word = word } };
 }
 
-impl Registers {
+impl RegisterSet {
     /// None of them.
-    pub(crate) fn none() -> Registers
+    pub(crate) fn empty() -> RegisterSet
         ensures { (r : ℕ) → has_register result r ≡ false }
     {
-        Registers { word: 0 }
+        RegisterSet { word: 0 }
     }
 
     /// Whether the register is one of them.
@@ -52,31 +52,31 @@ impl Registers {
     }
 
     /// These, and the register `target`, if there is one.
-    pub(crate) fn with(self, target: &Option<Register>) -> Registers
+    pub(crate) fn with(self, target: &Option<Register>) -> RegisterSet
         ensures { (r : ℕ) → has_register result r ≡ has_register self r || goes_to r target.now }
     {
         match *target {
-            Some(register) => self.and(register.index()),
+            Some(register) => self.with_number(register.index()),
             None => self,
         }
     }
 
     /// These, and the register of this number.
-    fn and(self, number: usize) -> Registers
+    fn with_number(self, number: usize) -> RegisterSet
         requires { number < 32 }
         ensures { (r : ℕ) → has_register result r ≡ has_register self r || (r == number) }
     {
-        Registers {
+        RegisterSet {
             word: self.word | (1 << number),
         }
     }
 }
 
 /// The registers to which the replies for open cells go.
-pub(crate) fn awaited_by(opened: &[OpenCell]) -> Registers
+pub(crate) fn awaited_by(opened: &[OpenCell]) -> RegisterSet
     ensures { (r : ℕ) → has_register result r ≡ is_awaited r opened.now }
 {
-    let mut awaited = Registers::none();
+    let mut awaited = RegisterSet::empty();
     for open in opened {
         awaited = awaited.with(&open.target);
     }

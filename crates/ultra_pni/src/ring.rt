@@ -18,11 +18,11 @@ pub(crate) struct RequestRing {
 impl Model for RequestRing {
     ghost use Rattle.std.specs.Prelude.{List};
     ghost use Rattle.ultra_msg.specs.declared.Request.{Request};
-    ghost use Rattle.ultra_pni.specs.Ring.{requests_from, IsRing};
+    ghost use Rattle.ultra_pni.specs.Ring.{requests_in_ring, IsRing};
 
     ghost Value = { List Request };
 
-    ghost view = { λ r. requests_from r.places r.first r.count };
+    ghost view = { λ r. requests_in_ring r.places r.first r.count };
 
     ghost invariant = { λ r. IsRing r.first r.count };
 }

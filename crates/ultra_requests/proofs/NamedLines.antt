@@ -13,7 +13,7 @@ use Rattle.ultra_trace_alone.specs.RunText.{run_text}
 use Rattle.ultra_latency.specs.declared.open.OpenRequest.{OpenRequest}
 use Rattle.ultra_latency.specs.Latency.{latest_among, latest_issue, no_issue}
 use Rattle.ultra_latency.specs.Open.{open_rows, rows_with, IsOpenIn, IsOpenLaw, NamesOpen, NameOpen}
-use Rattle.ultra_requests.specs.Along.{along, event_line_at, number_in_rows, number_of, HaveRows}
+use Rattle.ultra_requests.specs.Along.{along, event_line_at, number_in_rows, number_if_open, HaveRows}
 use Rattle.ultra_requests.specs.EventLines.{event_line, events_of, open_number, shown_of_cycle}
 
 -- the number of the latest issue
@@ -33,7 +33,7 @@ module _ (c : Settings) (program : List Instr) (n : ℕ) where
 
   -- an open request has the number of the definition
   number_is : (rows : List (List OpenRequest)) (p a : ℕ) → IsOpenIn c program n rows p a → number_in_rows rows p a ≡ open_number c program n p a
-  number_is rows p a h = ap number_of h.1 ∙ number_latest p a
+  number_is rows p a h = ap number_if_open h.1 ∙ number_latest p a
 
   line_same : (rows : List (List OpenRequest)) (e : Event) → NamesOpen c program n rows e → event_line_at n rows e ≡ event_line (open_number c program n) n e
   line_same rows (Delivered r) h = rw (number_is rows r.pe r.cell h) refl

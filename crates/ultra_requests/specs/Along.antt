@@ -16,12 +16,12 @@ abbrev pub logged_issue : ℕ → OpenRequest → LoggedIssue
 logged_issue p o = record { pe = p; number = o.number; cell = o.cell; op = o.op; cycle = o.cycle }
 
 -- the number of an open request, if it is there
-abbrev pub number_of : Option OpenRequest → ℕ
-number_of None = 0
-number_of (Some o) = o.number
+abbrev pub number_if_open : Option OpenRequest → ℕ
+number_if_open None = 0
+number_if_open (Some o) = o.number
 
 abbrev pub number_in_rows : List (List OpenRequest) → ℕ → ℕ → ℕ
-number_in_rows rows p a = number_of (request_for a (row rows p))
+number_in_rows rows p a = number_if_open (request_for a (row rows p))
 
 -- the line of an event, and the row of a delivery
 abbrev pub event_line_at : ℕ → List (List OpenRequest) → Event → List ℕ

@@ -14,7 +14,7 @@ use ultra_latency::OpenTable;
 use ultra_model::Stop;
 use ultra_msg::{Event, Sink};
 
-/// Writes the lines of the events of a cycle. The open requests go on with them.
+/// Writes the lines of the events of a cycle, and updates the open requests by them.
 pub(crate) fn put_event_lines<S: Sink>(
     buffer: &mut TextBuffer<'_, S>,
     table: &mut OpenTable,
@@ -24,7 +24,8 @@ pub(crate) fn put_event_lines<S: Sink>(
     requires places { HavePlaces cycle table.old.rows.items events.now }
     requires rows { HaveRows cycle table.old.rows.items events.now }
     ensures rows { table.new.rows.items ≡ rows_after cycle table.old.rows.items events.now }
-    ensures writes { Writes S.taken S.failures (along event_line_at cycle table.old.rows.items events.now) buffer.old buffer.new }
+    ensures writes { Writes S.taken S.failures
+        (along event_line_at cycle table.old.rows.items events.now) buffer.old buffer.new }
 {
     for event in events {
         put_event(buffer, table, event, cycle);
@@ -32,8 +33,8 @@ pub(crate) fn put_event_lines<S: Sink>(
     }
 }
 
-/// The open requests go on with the events of a cycle, of which nothing is written.
-pub(crate) fn pass_over(table: &mut OpenTable, events: &[Event], cycle: u32)
+/// Updates the open requests by the events of a cycle, of which nothing is written.
+pub(crate) fn note_unwritten_events(table: &mut OpenTable, events: &[Event], cycle: u32)
     requires { HavePlaces cycle table.old.rows.items events.now }
     ensures { table.new.rows.items ≡ rows_after cycle table.old.rows.items events.now }
 {
@@ -44,15 +45,16 @@ pub(crate) fn pass_over(table: &mut OpenTable, events: &[Event], cycle: u32)
 
 /// Writes the lines of the faults of a cycle.
 pub(crate) fn put_stops<S: Sink>(buffer: &mut TextBuffer<'_, S>, stops: &[Stop], cycle: u32)
-    ensures { Writes S.taken S.failures (flat_map (stop_line cycle) stops.now) buffer.old buffer.new }
+    ensures { Writes S.taken S.failures
+        (flat_map (stop_line cycle) stops.now) buffer.old buffer.new }
 {
     for stop in stops {
         put_stop(buffer, *stop, cycle);
     }
 }
 
-/// Writes the rows of the requests that the events of a cycle answer. The open requests go on with
-/// them.
+/// Writes the rows of the requests that the events of a cycle answer, and updates the open
+/// requests by these events.
 pub(crate) fn put_answers<S: Sink>(
     buffer: &mut TextBuffer<'_, S>,
     table: &mut OpenTable,
@@ -61,7 +63,8 @@ pub(crate) fn put_answers<S: Sink>(
 )
     requires places { HavePlaces cycle table.old.rows.items events.now }
     ensures rows { table.new.rows.items ≡ rows_after cycle table.old.rows.items events.now }
-    ensures writes { Writes S.taken S.failures (along row_at cycle table.old.rows.items events.now) buffer.old buffer.new }
+    ensures writes { Writes S.taken S.failures
+        (along row_at cycle table.old.rows.items events.now) buffer.old buffer.new }
 {
     for event in events {
         let answered = table.note(event, cycle);

@@ -9,7 +9,7 @@ ghost use Rattle.ultra_trace_alone.specs.BlocksAfter.{IsAfter};
 ghost use Rattle.ultra_trace_alone.specs.Faults.{sink_faults};
 ghost use Rattle.ultra_requests.specs.EventLines.{events_of, lines_of_cycle, shown_of_cycle};
 
-use crate::cycle::{pass_over, put_event_lines, put_stops};
+use crate::cycle::{note_unwritten_events, put_event_lines, put_stops};
 use std::alloc::Global;
 use ultra_block::Blocks;
 use ultra_io::TextBuffer;
@@ -33,10 +33,13 @@ pub fn write_events<S: Sink>(
     to: u32,
     sink: &mut S,
 ) -> Result<(), RunFault>
-    ensures ok { OnOk result (S.taken sink.new ≡ S.taken sink.old ++ events_of from to config.now program.now) }
+    ensures ok { OnOk result
+        (S.taken sink.new ≡ S.taken sink.old ++ events_of from to config.now program.now) }
     ensures still { OnOk result (S.failures sink.new ≡ S.failures sink.old) }
-    ensures err { OnErr result (TakesPrefix (events_of from to config.now program.now) (S.taken sink.old) (S.taken sink.new)) }
-    ensures counted { IfErr result (λ e. S.failures sink.new ≡ S.failures sink.old + sink_faults e) }
+    ensures err { OnErr result (TakesPrefix (events_of from to config.now program.now)
+        (S.taken sink.old) (S.taken sink.new)) }
+    ensures counted { IfErr result (λ e.
+        S.failures sink.new ≡ S.failures sink.old + sink_faults e) }
     ensures alone { IfErr result (λ e. e ≢ NoThread) }
     ensures memory_first { IfErr result (λ e. e ≡ NoMemory → S.taken sink.new ≡ S.taken sink.old) }
 {
@@ -74,14 +77,14 @@ impl RunText for EventText {
         if self.from <= cycle && cycle <= self.to {
             put_cycle(buffer, &mut self.table, blocks, cycle);
         } else {
-            pass_over(&mut self.table, blocks.events_of_one(), cycle);
+            note_unwritten_events(&mut self.table, blocks.events_of_one(), cycle);
         }
     }
 
     fn put_closing<S: Sink>(&self, _buffer: &mut TextBuffer<'_, S>, _blocks: &Blocks) {}
 }
 
-/// Writes the lines of the last cycle. The open requests go on with it.
+/// Writes the lines of the last cycle, and updates the open requests by its events.
 fn put_cycle<S: Sink>(
     buffer: &mut TextBuffer<'_, S>,
     table: &mut OpenTable,
@@ -91,8 +94,10 @@ fn put_cycle<S: Sink>(
     requires one { blocks.now.count ≡ 1 }
     requires made { IsAfter blocks.now.config blocks.now.program (cycle + 1) blocks.now }
     requires rows { table.old.rows.items ≡ open_rows blocks.now.config blocks.now.program cycle }
-    ensures rows { table.new.rows.items ≡ open_rows blocks.now.config blocks.now.program (cycle + 1) }
-    ensures writes { Writes S.taken S.failures (lines_of_cycle blocks.now.config blocks.now.program cycle) buffer.old buffer.new }
+    ensures rows { table.new.rows.items ≡
+        open_rows blocks.now.config blocks.now.program (cycle + 1) }
+    ensures writes { Writes S.taken S.failures
+        (lines_of_cycle blocks.now.config blocks.now.program cycle) buffer.old buffer.new }
 {
     // for the prover: what the events make of the open requests, and which they name
     law_of_open_requests(blocks.config());

@@ -22,7 +22,8 @@ pub(crate) fn put_event<S: Sink>(
     cycle: u32,
 )
     requires { HasRows table.now.rows.items event.now }
-    ensures { Writes S.taken S.failures (event_line_at cycle table.now.rows.items event.now) buffer.old buffer.new }
+    ensures { Writes S.taken S.failures
+        (event_line_at cycle table.now.rows.items event.now) buffer.old buffer.new }
 {
     match *event {
         Event::Delivered(reply) => put_answer(buffer, table, reply, cycle),
@@ -75,8 +76,9 @@ fn put_answer<S: Sink>(
     cycle: u32,
 )
     requires { reply.pe < length table.now.rows.items }
-    ensures { Writes S.taken S.failures
-        (decimal cycle ++ codes " answer " ++ named_text reply.pe (number_in_rows table.now.rows.items reply.pe reply.cell) reply.cell ++ codes " = " ++ reply_text reply.reply ++ newline) buffer.old buffer.new }
+    ensures { Writes S.taken S.failures (decimal cycle ++ codes " answer " ++
+        named_text reply.pe (number_in_rows table.now.rows.items reply.pe reply.cell) reply.cell ++
+        codes " = " ++ reply_text reply.reply ++ newline) buffer.old buffer.new }
 {
     let number = open_number(table, reply.pe, reply.cell);
     let at = begin_line(buffer, cycle, b" answer ");
@@ -98,7 +100,10 @@ fn put_act<S: Sink>(
 )
     requires { request.pe < length table.now.rows.items }
     ensures { Writes S.taken S.failures
-        (decimal cycle ++ codes " act " ++ decimal module_number ++ codes " " ++ named_text request.pe (number_in_rows table.now.rows.items request.pe request.cell) request.cell ++ codes " " ++ op_text request.op ++ codes " = " ++ reply_text reply ++ codes " now " ++ decimal now ++ newline) buffer.old buffer.new }
+        (decimal cycle ++ codes " act " ++ decimal module_number ++ codes " " ++
+        named_text request.pe (number_in_rows table.now.rows.items request.pe request.cell)
+        request.cell ++ codes " " ++ op_text request.op ++ codes " = " ++ reply_text reply ++
+        codes " now " ++ decimal now ++ newline) buffer.old buffer.new }
 {
     let number = open_number(table, request.pe, request.cell);
     let at = begin_line(buffer, cycle, b" act ");
@@ -117,7 +122,8 @@ fn put_act<S: Sink>(
 /// Writes the line of an issue, as `2 issue 0.0@0 faa 1`.
 fn put_issue<S: Sink>(buffer: &mut TextBuffer<'_, S>, request: Request, number: u32, cycle: u32)
     ensures { Writes S.taken S.failures
-        (decimal cycle ++ codes " issue " ++ named_text request.pe number request.cell ++ codes " " ++ op_text request.op ++ newline) buffer.old buffer.new }
+        (decimal cycle ++ codes " issue " ++ named_text request.pe number request.cell ++
+        codes " " ++ op_text request.op ++ newline) buffer.old buffer.new }
 {
     let at = begin_line(buffer, cycle, b" issue ");
     let at = write_named(buffer, at, request.pe, number, request.cell);

@@ -32,10 +32,13 @@ pub fn write_requests<S: Sink>(
     program: &Program,
     sink: &mut S,
 ) -> Result<(), RunFault>
-    ensures ok { OnOk result (S.taken sink.new ≡ S.taken sink.old ++ requests_of config.now program.now) }
+    ensures ok { OnOk result
+        (S.taken sink.new ≡ S.taken sink.old ++ requests_of config.now program.now) }
     ensures still { OnOk result (S.failures sink.new ≡ S.failures sink.old) }
-    ensures err { OnErr result (TakesPrefix (requests_of config.now program.now) (S.taken sink.old) (S.taken sink.new)) }
-    ensures counted { IfErr result (λ e. S.failures sink.new ≡ S.failures sink.old + sink_faults e) }
+    ensures err { OnErr result
+        (TakesPrefix (requests_of config.now program.now) (S.taken sink.old) (S.taken sink.new)) }
+    ensures counted { IfErr result (λ e.
+        S.failures sink.new ≡ S.failures sink.old + sink_faults e) }
     ensures alone { IfErr result (λ e. e ≢ NoThread) }
     ensures memory_first { IfErr result (λ e. e ≡ NoMemory → S.taken sink.new ≡ S.taken sink.old) }
 {

@@ -25,7 +25,8 @@ pub(crate) fn put_answered<S: Sink>(
     answered: Option<OpenRequest>,
     cycle: u32,
 )
-    ensures { Writes S.taken S.failures (answered_line cycle event.now answered) buffer.old buffer.new }
+    ensures { Writes S.taken S.failures
+        (answered_line cycle event.now answered) buffer.old buffer.new }
 {
     if let Event::Delivered(reply) = *event {
         put_answer(buffer, reply, answered, cycle);
@@ -53,7 +54,8 @@ fn put_answer<S: Sink>(
 /// Begins the row of a request, as `0,0,faa,0,1,2,`: what was issued.
 #[inline(always)]
 fn begin_row<S: Sink>(buffer: &mut TextBuffer<'_, S>, pe: Pe, request: OpenRequest) -> usize
-    ensures goes_on { Begins S.taken S.failures (issue_text (logged_issue pe request) ++ codes ",") buffer.old buffer.new result }
+    ensures goes_on { Begins S.taken S.failures
+        (issue_text (logged_issue pe request) ++ codes ",") buffer.old buffer.new result }
     ensures room { result + 60 ≤ BUFFER_BYTES }
 {
     let at = buffer.begin();
@@ -92,7 +94,8 @@ fn put_waiting_of<S: Sink>(buffer: &mut TextBuffer<'_, S>, pe: Pe, requests: &[O
 /// Writes the rows of the open requests of n processing elements, by number.
 pub(crate) fn put_waiting<S: Sink>(buffer: &mut TextBuffer<'_, S>, table: &OpenTable, pes: u32)
     requires { pes ≤ length table.now.rows.items }
-    ensures { Writes S.taken S.failures (waiting_all pes table.now.rows.items) buffer.old buffer.new }
+    ensures { Writes S.taken S.failures
+        (waiting_all pes table.now.rows.items) buffer.old buffer.new }
 {
     for pe in 0..pes {
         put_waiting_of(buffer, pe, table.requests(pe));

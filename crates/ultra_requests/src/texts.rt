@@ -19,7 +19,8 @@ pub(crate) fn begin_line<S: Sink, const N: usize>(
     word: &[u8; N],
 ) -> usize
     requires { N ≤ 10 }
-    ensures goes_on { Begins S.taken S.failures (decimal cycle ++ word.now) buffer.old buffer.new result }
+    ensures goes_on { Begins S.taken S.failures
+        (decimal cycle ++ word.now) buffer.old buffer.new result }
     ensures room { result + 100 ≤ BUFFER_BYTES }
 {
     let at = buffer.begin();
@@ -47,7 +48,8 @@ pub(crate) fn write_named<S: Sink>(
     cell: Cell,
 ) -> usize
     requires { at + 32 ≤ BUFFER_BYTES }
-    ensures goes_on { GoesOn S.taken S.failures (named_text pe number cell) buffer.old at buffer.new result }
+    ensures goes_on { GoesOn S.taken S.failures
+        (named_text pe number cell) buffer.old at buffer.new result }
     ensures few { result ≤ at + 32 }
 {
     let at = buffer.write_number(at, pe);
@@ -66,7 +68,8 @@ fn write_with_word<S: Sink, const N: usize>(
     word: u32,
 ) -> usize
     requires { at + N + 10 ≤ BUFFER_BYTES }
-    ensures goes_on { GoesOn S.taken S.failures (bytes.now ++ decimal word) buffer.old at buffer.new result }
+    ensures goes_on { GoesOn S.taken S.failures
+        (bytes.now ++ decimal word) buffer.old at buffer.new result }
     ensures few { result ≤ at + N + 10 }
 {
     let at = buffer.write(at, bytes);
@@ -96,7 +99,8 @@ pub(crate) fn write_order<S: Sink>(
     old_first: bool,
 ) -> usize
     requires { at + 3 ≤ BUFFER_BYTES }
-    ensures goes_on { GoesOn S.taken S.failures (order_sign old_first) buffer.old at buffer.new result }
+    ensures goes_on { GoesOn S.taken S.failures
+        (order_sign old_first) buffer.old at buffer.new result }
     ensures few { result ≤ at + 3 }
 {
     if old_first {

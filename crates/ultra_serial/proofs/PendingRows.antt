@@ -9,23 +9,23 @@ use Rattle.ultra_serial_law.specs.declared.records.NamedRequest.{NamedRequest}
 use Rattle.ultra_serial.specs.declared.pending_row.PendingRequest.{PendingRequest}
 use Rattle.ultra_serial.specs.declared.pending_row.PendingRow.{PendingRow}
 use Rattle.ultra_serial.specs.ByPair.{is_pair, with_item}
-use Rattle.ultra_serial.specs.PendingRow.{with_front, leaves_under, items_in, leaves_in_order, last_joined, with_joined}
+use Rattle.ultra_serial.specs.PendingRow.{first_if, leaves_under, items_in, leaves_in_order, last_joined, with_joined}
 use Rattle.ultra_serial.specs.PendingRequests.{requests_in, chains_in}
 use Rattle.ultra_serial.proofs.ByPair.{same_pair}
 use Rattle.ultra_serial.proofs.Places.{get_set, get_other}
 
-front_append : {X : Type 0} (t : Bool) (x : X) (xs ys : List X) → with_front t x (xs ++ ys) ≡ with_front t x xs ++ ys
+front_append : {X : Type 0} (t : Bool) (x : X) (xs ys : List X) → first_if t x (xs ++ ys) ≡ first_if t x xs ++ ys
 front_append true x xs ys = refl
 front_append false x xs ys = refl
 
-front_is_item : {X : Type 0} (t : Bool) (x : X) (xs : List X) → xs ++ with_front t x [] ≡ with_item t xs x
+front_is_item : {X : Type 0} (t : Bool) (x : X) (xs : List X) → xs ++ first_if t x [] ≡ with_item t xs x
 front_is_item true x xs = refl
 front_is_item false x xs = append-nil xs
 
 pub under_append : (p a : ℕ) (rs ss : List PendingRequest) → leaves_under p a (rs ++ ss) ≡ leaves_under p a rs ++ leaves_under p a ss
 under_append p a [] ss = refl
 under_append p a (r ∷ rs) ss =
-    ap (λ us. with_front (is_pair r.pe r.cell p a) r.leaves.items us) (under_append p a rs ss)
+    ap (λ us. first_if (is_pair r.pe r.cell p a) r.leaves.items us) (under_append p a rs ss)
     ∙ front_append (is_pair r.pe r.cell p a) r.leaves.items (leaves_under p a rs) (leaves_under p a ss)
 
 -- one request more
@@ -34,7 +34,7 @@ under_more p a rs r = under_append p a rs (r ∷ []) ∙ front_is_item (is_pair 
 
 -- a request of another identity in front
 pub under_later : (p a : ℕ) (r : PendingRequest) (rs : List PendingRequest) → is_pair r.pe r.cell p a ≡ false → leaves_under p a (r ∷ rs) ≡ leaves_under p a rs
-under_later p a r rs e = ap (λ t. with_front t r.leaves.items (leaves_under p a rs)) e
+under_later p a r rs e = ap (λ t. first_if t r.leaves.items (leaves_under p a rs)) e
 
 split_after : {X : Type 0} (xs : List X) (i : ℕ) (x : X) → slice_get xs i ≡ Some x → xs ≡ take i xs ++ x ∷ drop (suc i) xs
 split_after [] i x e = absurd cc
@@ -68,7 +68,7 @@ module _ (rs : List PendingRequest) (i : ℕ) (r : PendingRequest) (p a : ℕ) (
   here_last : (us : List PendingRequest) (s : PendingRequest) → us ≡ before ++ s ∷ after → is_pair s.pe s.cell p a ≡ true → leaves_under p a after ≡ [] → leaves_under p a us ≡ leaves_under p a before ++ s.leaves.items ∷ []
   here_last us s parts same latest =
       ap (λ vs. leaves_under p a vs) parts ∙ under_append p a before (s ∷ after)
-      ∙ ap (λ t. leaves_under p a before ++ with_front t s.leaves.items (leaves_under p a after)) same
+      ∙ ap (λ t. leaves_under p a before ++ first_if t s.leaves.items (leaves_under p a after)) same
       ∙ ap (λ vs. leaves_under p a before ++ s.leaves.items ∷ vs) latest
 
   pub row_taken : leaves_under p a after ≡ [] → leaves_under p a rs ≡ leaves_under p a (before ++ after) ++ r.leaves.items ∷ []

@@ -3,10 +3,10 @@ use Rattle.std.specs.Prelude.{◌≡◌, ◌≤◌, ◌⊎◌, ℕ, List, true}
 use Rattle.ultra_isa.specs.declared.Instr.{Instr}
 use Rattle.ultra_model.specs.Machine.{Settings, is_quiet}
 use Rattle.ultra_model.specs.Phases.{after}
-use Rattle.ultra_machine.specs.Running.{Running}
+use Rattle.ultra_machine.specs.MachineState.{MachineState}
 
 -- it is the machine of these settings and this program after n cycles, or where it was quiet first
-pub record HasRun (c : Settings) (program : List Instr) (n : ℕ) (m : Running) : Type 0 where
+pub record HasRun (c : Settings) (program : List Instr) (n : ℕ) (m : MachineState) : Type 0 where
   pub settings : m.settings ≡ c
   pub instructions : m.program ≡ program
   pub state : m.state ≡ after c program m.state.cycles

@@ -6,7 +6,7 @@ pub mod DenseCells
 pub mod PendingRow
 pub mod PendingRequests
 pub mod Following
-pub mod Ordered
+pub mod OrderedRunState
 pub mod Ordering
 pub mod LatestNumbers
 pub mod LogRecorder

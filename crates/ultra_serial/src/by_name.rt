@@ -19,8 +19,8 @@ const ROWS: u32 = 64;
 /// Where the items of a list are, by the name of a request. Most names have one item.
 ///
 /// A name can have a place in a row, which holds the index of one item. The items of a name that
-/// has several, or no place, are in a map. The methods are handed the list, which is the same at
-/// each call.
+/// has several, or no place, are in a map. The methods take the list, which is the same at each
+/// call.
 #[derive(Drop)]
 pub(crate) struct ListsByName<T> {
     /// For each processing element the places of its first numbers: one more than the index of an
@@ -33,7 +33,8 @@ pub(crate) struct ListsByName<T> {
 impl<T: Copy> ListsByName<T> {
     /// No items and no places.
     pub fn new(alloc: Global) -> Result<ListsByName<T>, AllocError>
-        ensures { IfOk result (λ named. (whole : List T) (p n : ℕ) → list_named named whole p n ≡ []) }
+        ensures { IfOk result (λ named. (whole : List T) (p n : ℕ) →
+            list_named named whole p n ≡ []) }
     {
         let mut named = ListsByName {
             rows: Vec::new(alloc),
@@ -50,7 +51,8 @@ impl<T: Copy> ListsByName<T> {
         alloc: Global,
         model: &ListsByName<U>,
     ) -> Result<ListsByName<T>, AllocError>
-        ensures { IfOk result (λ named. (whole : List T) (p n : ℕ) → list_named named whole p n ≡ []) }
+        ensures { IfOk result (λ named. (whole : List T) (p n : ℕ) →
+            list_named named whole p n ≡ []) }
     {
         let mut named = ListsByName {
             rows: Vec::new(alloc),
@@ -77,7 +79,8 @@ impl<T: Copy> ListsByName<T> {
 
     /// Makes a place for a name if its number is the next one of its row. No list changes.
     pub fn make_place(&mut self, name: RequestName) -> Result<(), AllocError>
-        ensures { OnOk result ((whole : List T) (p n : ℕ) → list_named self.new whole p n ≡ list_named self.old whole p n) }
+        ensures { OnOk result ((whole : List T) (p n : ℕ) →
+            list_named self.new whole p n ≡ list_named self.old whole p n) }
     {
         let (row, number) = (name.pe as usize, name.number as usize);
         if row < self.rows.len() && number == self.rows[row].len() {
@@ -90,7 +93,9 @@ impl<T: Copy> ListsByName<T> {
     pub fn push(&mut self, whole: &[T], index: usize, name: RequestName) -> Result<(), AllocError>
         requires fits { FitsInMemory T.row }
         requires within { index < length whole.now }
-        ensures { OnOk result ((x : T) → slice_get whole.now index ≡ Some x → (p n : ℕ) → list_named self.new whole.now p n ≡ lists_with (list_named self.old whole.now) name.pe name.number x p n) }
+        ensures { OnOk result ((x : T) → slice_get whole.now index ≡ Some x → (p n : ℕ) →
+            list_named self.new whole.now p n ≡
+            lists_with (list_named self.old whole.now) name.pe name.number x p n) }
     {
         if self.get(whole, name).is_empty() {
             return self.push_first(whole, index, name);
@@ -103,7 +108,9 @@ impl<T: Copy> ListsByName<T> {
     fn push_first(&mut self, whole: &[T], index: usize, name: RequestName) -> Result<(), AllocError>
         requires within { index < length whole.now }
         requires none { list_named self.old whole.now name.pe name.number ≡ [] }
-        ensures { OnOk result ((x : T) → slice_get whole.now index ≡ Some x → (p n : ℕ) → list_named self.new whole.now p n ≡ lists_with (list_named self.old whole.now) name.pe name.number x p n) }
+        ensures { OnOk result ((x : T) → slice_get whole.now index ≡ Some x → (p n : ℕ) →
+            list_named self.new whole.now p n ≡
+            lists_with (list_named self.old whole.now) name.pe name.number x p n) }
     {
         if self.set_place(name, index) {
             return Ok(());
@@ -115,8 +122,10 @@ impl<T: Copy> ListsByName<T> {
     /// No list changes.
     fn keep_first(&mut self, whole: &[T], name: RequestName) -> Result<(), AllocError>
         requires { FitsInMemory T.row }
-        ensures same { OnOk result ((p n : ℕ) → list_named self.new whole.now p n ≡ list_named self.old whole.now p n) }
-        ensures kept { OnOk result (list_of self.new.others.lists name.pe name.number ≡ [] → item_at whole.now (place_of self.new.rows.items name.pe name.number) ≡ []) }
+        ensures same { OnOk result ((p n : ℕ) →
+            list_named self.new whole.now p n ≡ list_named self.old whole.now p n) }
+        ensures kept { OnOk result (list_of self.new.others.lists name.pe name.number ≡ [] →
+            item_at whole.now (place_of self.new.rows.items name.pe name.number) ≡ []) }
     {
         if !self.others.get(name).is_empty() {
             return Ok(());
@@ -141,7 +150,8 @@ impl<T: Copy> ListsByName<T> {
     /// Gives the place of a name the item of an index. It answers `false` where the name has no
     /// place, or the index is too large.
     fn set_place(&mut self, name: RequestName, index: usize) -> bool
-        ensures set { result ≡ true → (p n : ℕ) → place_of self.new.rows.items p n ≡ places_with (place_of self.old.rows.items) name.pe name.number (index + 1) p n }
+        ensures set { result ≡ true → (p n : ℕ) → place_of self.new.rows.items p n ≡
+            places_with (place_of self.old.rows.items) name.pe name.number (index + 1) p n }
         ensures unchanged { result ≡ false → self.new ≡ self.old }
         ensures others { self.new.others ≡ self.old.others }
     {
@@ -155,7 +165,8 @@ impl<T: Copy> ListsByName<T> {
 
     /// Adds a row of places without items. No list changes.
     fn add_row(&mut self, alloc: Global, places: usize) -> Result<(), AllocError>
-        ensures { OnOk result ((whole : List T) (p n : ℕ) → list_named self.new whole p n ≡ list_named self.old whole p n) }
+        ensures { OnOk result ((whole : List T) (p n : ℕ) →
+            list_named self.new whole p n ≡ list_named self.old whole p n) }
     {
         self.rows.push(zeros(alloc, places)?)?;
         Ok(())

@@ -10,16 +10,13 @@ ghost use Rattle.ultra_serial.specs.Breach.{cells_past, ExplainsCheckFault};
 ghost use Rattle.ultra_serial.specs.Examined.{AreExplained, IsListed, IsFirstMissingAnswer, IsFine, IsWrongAt};
 ghost use Rattle.ultra_serial.specs.RecordsByName.{Holds};
 
-use crate::dense_memory::DenseMemory;
+use crate::dense_memory::{DenseMemory, MOST_TABLE_CELLS};
 use crate::examining::{after_issues, fault_of, is_answer_to};
 use crate::records_by_name::RecordsByName;
 use crate::request_name::RequestName;
 use crate::{Entry, Log, LoggedAnswer};
 use std::alloc::{AllocError, Global};
 use ultra_msg::{Cell, Word};
-
-/// The number of addresses whose cells are found fast.
-const TABLE_CELLS: u32 = 65_536;
 
 /// What is wrong with a list: with one of its entries, with an answer that none of them has
 /// (`Missing`) or with a cell (`WrongCell`).
@@ -47,8 +44,8 @@ pub enum BreachKind {
 pub enum CheckFault {
     /// Memory was refused.
     NoMemory,
-    /// The list doesn't explain the log: what is wrong, and the index of the entry, of the log's
-    /// answer (`Missing`) or of the cell (`WrongCell`).
+    /// The list doesn't explain the log: what is wrong, and the index from 0 of the entry or of the
+    /// log's answer (`Missing`), or the address of the cell (`WrongCell`).
     Breach(BreachKind, usize),
 }
 
@@ -77,12 +74,14 @@ pub fn check(
     cells: &[(Cell, Word)],
     list: &[Entry],
 ) -> Result<(), CheckFault>
-    ensures legal { OnOk result (IsLegal (given initial.now) (log_of log.now) (given cells.now) list.now) }
-    ensures breach { IfErr result (ExplainsCheckFault (given initial.now) (log_of log.now) (given cells.now) list.now) }
+    ensures legal { OnOk result
+        (IsLegal (given initial.now) (log_of log.now) (given cells.now) list.now) }
+    ensures breach { IfErr result
+        (ExplainsCheckFault (given initial.now) (log_of log.now) (given cells.now) list.now) }
 {
-    let mut memory = DenseMemory::new(alloc, initial, TABLE_CELLS)?;
+    let mut memory = DenseMemory::new(alloc, initial, MOST_TABLE_CELLS)?;
     examine(alloc, log, list, &mut memory)?;
-    let wanted = DenseMemory::new(alloc, cells, TABLE_CELLS)?;
+    let wanted = DenseMemory::new(alloc, cells, MOST_TABLE_CELLS)?;
     let of_initial = lowest_given(&memory, &wanted, initial, None);
     let of_cells = lowest_given(&memory, &wanted, cells, of_initial);
     if let Some(cell) = lowest_used(&memory, &wanted, list, of_cells) {
@@ -99,10 +98,14 @@ fn examine(
     list: &[Entry],
     memory: &mut DenseMemory,
 ) -> Result<(), CheckFault>
-    ensures cells { OnOk result (dense_cells memory.new ≡ cells_past (dense_cells memory.old) list.now) }
-    ensures explained { OnOk result (AreExplained (dense_cells memory.old) (log_of log.now) list.now) }
-    ensures answered { OnOk result ((a : AnswerOf) → Has (log_of log.now).answers a → IsListed list.now a) }
-    ensures breach { (final : Cells) → IfErr result (ExplainsCheckFault (dense_cells memory.old) (log_of log.now) final list.now) }
+    ensures cells { OnOk result
+        (dense_cells memory.new ≡ cells_past (dense_cells memory.old) list.now) }
+    ensures explained { OnOk result
+        (AreExplained (dense_cells memory.old) (log_of log.now) list.now) }
+    ensures answered { OnOk result ((a : AnswerOf) → Has (log_of log.now).answers a →
+        IsListed list.now a) }
+    ensures breach { (final : Cells) →
+        IfErr result (ExplainsCheckFault (dense_cells memory.old) (log_of log.now) final list.now) }
 {
     let mut names = RecordsByName::new(alloc, log, list)?;
     replay(list, &mut names, memory)?;
@@ -120,10 +123,14 @@ fn replay(
     memory: &mut DenseMemory,
 ) -> Result<(), CheckFault>
     requires { names.old.list.now ≡ list.now }
-    ensures cells { OnOk result (dense_cells memory.new ≡ cells_past (dense_cells memory.old) list.now) }
-    ensures names { OnOk result ((log : LogOf) → Holds names.old log [] → Holds names.new log list.now) }
-    ensures explained { OnOk result ((log : LogOf) → Holds names.old log [] → AreExplained (dense_cells memory.old) log list.now) }
-    ensures breach { (log : LogOf) (final : Cells) → Holds names.old log [] → IfErr result (ExplainsCheckFault (dense_cells memory.old) log final list.now) }
+    ensures cells { OnOk result
+        (dense_cells memory.new ≡ cells_past (dense_cells memory.old) list.now) }
+    ensures names { OnOk result ((log : LogOf) → Holds names.old log [] →
+        Holds names.new log list.now) }
+    ensures explained { OnOk result ((log : LogOf) → Holds names.old log [] →
+        AreExplained (dense_cells memory.old) log list.now) }
+    ensures breach { (log : LogOf) (final : Cells) → Holds names.old log [] →
+        IfErr result (ExplainsCheckFault (dense_cells memory.old) log final list.now) }
 {
     let mut from = 0;
     for (index, entry) in list.iter().enumerate() {
@@ -143,8 +150,10 @@ fn replay(
 
 /// The first answer whose name no entry has.
 fn first_missing(answers: &[LoggedAnswer], names: &RecordsByName<'_>) -> Option<usize>
-    ensures none { (log : LogOf) (list : List EntryOf) → Holds names.now log list → result ≡ None → (a : AnswerOf) → Has answers.now a → IsListed list a }
-    ensures some { (log : LogOf) (list : List EntryOf) → Holds names.now log list → IfSome result (λ n. IsFirstMissingAnswer answers.now list n) }
+    ensures none { (log : LogOf) (list : List EntryOf) → Holds names.now log list → result ≡ None →
+        (a : AnswerOf) → Has answers.now a → IsListed list a }
+    ensures some { (log : LogOf) (list : List EntryOf) → Holds names.now log list →
+        IfSome result (λ n. IsFirstMissingAnswer answers.now list n) }
 {
     for (index, answer) in answers.iter().enumerate() {
         let name = RequestName {
@@ -178,9 +187,12 @@ fn lowest_given(
     given: &[(Cell, Word)],
     lowest: Option<Cell>,
 ) -> Option<Cell>
-    ensures kept { (a : ℕ) → IsFine (dense_cells left.now) (dense_cells right.now) lowest a → IsFine (dense_cells left.now) (dense_cells right.now) result a }
-    ensures covered { (k : ℕ) (i : ℕ × ℕ) → slice_get given.now k ≡ Some i → IsFine (dense_cells left.now) (dense_cells right.now) result i.0 }
-    ensures wrong { IsWrongAt (dense_cells left.now) (dense_cells right.now) lowest → IsWrongAt (dense_cells left.now) (dense_cells right.now) result }
+    ensures kept { (a : ℕ) → IsFine (dense_cells left.now) (dense_cells right.now) lowest a →
+        IsFine (dense_cells left.now) (dense_cells right.now) result a }
+    ensures covered { (k : ℕ) (i : ℕ × ℕ) → slice_get given.now k ≡ Some i →
+        IsFine (dense_cells left.now) (dense_cells right.now) result i.0 }
+    ensures wrong { IsWrongAt (dense_cells left.now) (dense_cells right.now) lowest →
+        IsWrongAt (dense_cells left.now) (dense_cells right.now) result }
 {
     let mut found = lowest;
     for (cell, _) in given {
@@ -197,9 +209,12 @@ fn lowest_used(
     list: &[Entry],
     lowest: Option<Cell>,
 ) -> Option<Cell>
-    ensures kept { (a : ℕ) → IsFine (dense_cells left.now) (dense_cells right.now) lowest a → IsFine (dense_cells left.now) (dense_cells right.now) result a }
-    ensures covered { (k : ℕ) (e : EntryOf) → slice_get list.now k ≡ Some e → IsFine (dense_cells left.now) (dense_cells right.now) result e.cell }
-    ensures wrong { IsWrongAt (dense_cells left.now) (dense_cells right.now) lowest → IsWrongAt (dense_cells left.now) (dense_cells right.now) result }
+    ensures kept { (a : ℕ) → IsFine (dense_cells left.now) (dense_cells right.now) lowest a →
+        IsFine (dense_cells left.now) (dense_cells right.now) result a }
+    ensures covered { (k : ℕ) (e : EntryOf) → slice_get list.now k ≡ Some e →
+        IsFine (dense_cells left.now) (dense_cells right.now) result e.cell }
+    ensures wrong { IsWrongAt (dense_cells left.now) (dense_cells right.now) lowest →
+        IsWrongAt (dense_cells left.now) (dense_cells right.now) result }
 {
     let mut found = lowest;
     for entry in list {
@@ -210,9 +225,11 @@ fn lowest_used(
 
 /// The lower of an address that was found before and this one, if the memories differ at it.
 fn lower(left: &DenseMemory, right: &DenseMemory, cell: Cell, found: Option<Cell>) -> Option<Cell>
-    ensures kept { (a : ℕ) → IsFine (dense_cells left.now) (dense_cells right.now) found a → IsFine (dense_cells left.now) (dense_cells right.now) result a }
+    ensures kept { (a : ℕ) → IsFine (dense_cells left.now) (dense_cells right.now) found a →
+        IsFine (dense_cells left.now) (dense_cells right.now) result a }
     ensures covered { IsFine (dense_cells left.now) (dense_cells right.now) result cell }
-    ensures wrong { IsWrongAt (dense_cells left.now) (dense_cells right.now) found → IsWrongAt (dense_cells left.now) (dense_cells right.now) result }
+    ensures wrong { IsWrongAt (dense_cells left.now) (dense_cells right.now) found →
+        IsWrongAt (dense_cells left.now) (dense_cells right.now) result }
 {
     if left.value(cell) == right.value(cell) {
         return found;

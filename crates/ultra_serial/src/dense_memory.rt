@@ -10,7 +10,7 @@ use std::alloc::{AllocError, Global};
 use ultra_msg::{Cell, Op, Reply, Word};
 
 /// The most addresses whose cells are in a table.
-const MOST_TABLE_CELLS: u32 = 65_536;
+pub(crate) const MOST_TABLE_CELLS: u32 = 65_536;
 
 /// A memory on which requests act sequentially. A cell to which nothing was given holds 0.
 #[derive(Drop)]
@@ -59,7 +59,8 @@ impl DenseMemory {
     /// An error says that memory of the host was refused.
     pub fn act(&mut self, cell: Cell, op: Op) -> Result<Reply, AllocError>
         ensures reply { IfOk result (λ r. r ≡ (effect op (dense_cells self.old cell)).1) }
-        ensures cells { OnOk result (dense_cells self.new ≡ with_cell (dense_cells self.old) cell (effect op (dense_cells self.old cell)).0) }
+        ensures cells { OnOk result (dense_cells self.new ≡
+            with_cell (dense_cells self.old) cell (effect op (dense_cells self.old cell)).0) }
     {
         let (new, reply) = op.act(self.value(cell));
         self.set(cell, new)?;
@@ -79,8 +80,8 @@ impl DenseMemory {
     }
 }
 
-/// A list of `count` zeros. (A parameter, because a tactic would compute a list of `TABLE_CELLS`
-/// zeros.)
+/// A list of `count` zeros. The length is a parameter, because a tactic would compute a list of
+/// `MOST_TABLE_CELLS` zeros.
 pub(crate) fn zeros(alloc: Global, count: usize) -> Result<Vec<Word>, AllocError>
     ensures { IfOk result (λ zeros. (k : ℕ) → slice_index zeros.items k ≡ 0) }
 {

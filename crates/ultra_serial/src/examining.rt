@@ -30,8 +30,11 @@ pub(crate) fn fault_of(
     memory: &mut DenseMemory,
     entry: &Entry,
 ) -> Result<Option<BreachKind>, AllocError>
-    ensures finds { (log : LogOf) (before : List EntryOf) → Holds names.now log before → IfOk result (λ found. Finds log before from (dense_cells memory.old) entry.now found) }
-    ensures acted { IfOk result (λ found. found ≡ None → dense_cells memory.new ≡ with_cell (dense_cells memory.old) entry.now.cell (effect entry.now.op (dense_cells memory.old entry.now.cell)).0) }
+    ensures finds { (log : LogOf) (before : List EntryOf) → Holds names.now log before →
+        IfOk result (λ found. Finds log before from (dense_cells memory.old) entry.now found) }
+    ensures acted { IfOk result (λ found. found ≡ None →
+        dense_cells memory.new ≡ with_cell (dense_cells memory.old) entry.now.cell
+        (effect entry.now.op (dense_cells memory.old entry.now.cell)).0) }
 {
     let name = RequestName {
         pe: entry.pe,
@@ -98,8 +101,10 @@ fn is_repeated(before: &[Entry], entry: &Entry) -> bool
 
 /// Whether the entry has an answer that isn't its reply.
 fn is_answered_otherwise(answers: &[LoggedAnswer], entry: &Entry) -> bool
-    ensures yes { result ≡ true → (a : AnswerOf) × Has answers.now a × IsAnswerTo entry.now a × (a.reply ≢ entry.now.reply) }
-    ensures no { result ≡ false → (a : AnswerOf) → Has answers.now a → IsAnswerTo entry.now a → a.reply ≡ entry.now.reply }
+    ensures yes { result ≡ true →
+        (a : AnswerOf) × Has answers.now a × IsAnswerTo entry.now a × (a.reply ≢ entry.now.reply) }
+    ensures no { result ≡ false → (a : AnswerOf) → Has answers.now a → IsAnswerTo entry.now a →
+        a.reply ≡ entry.now.reply }
 {
     for answer in answers {
         if is_answer_to(answer, entry) && answer.reply != entry.reply {
@@ -111,8 +116,10 @@ fn is_answered_otherwise(answers: &[LoggedAnswer], entry: &Entry) -> bool
 
 /// Whether the entry has an answer of an earlier cycle than `from`.
 fn is_answered_before(answers: &[LoggedAnswer], entry: &Entry, from: u64) -> bool
-    ensures yes { result ≡ true → (a : AnswerOf) × Has answers.now a × IsAnswerTo entry.now a × (a.cycle < from) }
-    ensures no { result ≡ false → (a : AnswerOf) → Has answers.now a → IsAnswerTo entry.now a → from ≤ a.cycle }
+    ensures yes { result ≡ true →
+        (a : AnswerOf) × Has answers.now a × IsAnswerTo entry.now a × (a.cycle < from) }
+    ensures no { result ≡ false → (a : AnswerOf) → Has answers.now a → IsAnswerTo entry.now a →
+        from ≤ a.cycle }
 {
     for answer in answers {
         if is_answer_to(answer, entry) && u64::from(answer.cycle) < from {
@@ -136,7 +143,8 @@ pub(crate) fn after_issues(issues: &[LoggedIssue], entry: &Entry, from: u64) -> 
     ensures small { result ≤ 4294967296 }
     ensures no_less { from ≤ result }
     ensures above { (i : IssueOf) → Has issues.now i → IsIssueNamed entry.now i → i.cycle < result }
-    ensures reached { (result ≡ from) ⊎ ((i : IssueOf) × Has issues.now i × IsIssueNamed entry.now i × (i.cycle + 1 ≡ result)) }
+    ensures reached { (result ≡ from) ⊎
+        ((i : IssueOf) × Has issues.now i × IsIssueNamed entry.now i × (i.cycle + 1 ≡ result)) }
 {
     let mut after = from;
     for issue in issues {

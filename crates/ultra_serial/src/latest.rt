@@ -15,7 +15,7 @@ use std::alloc::{AllocError, Global};
 
 /// The entry that was issued last, and the cycle of its issue; of several that were issued in that
 /// cycle the first. `None` where none was issued. An error says that memory was refused.
-pub fn latest_issue(
+pub fn latest_issued_entry(
     alloc: Global,
     log: &Log,
     list: &[Entry],
@@ -41,7 +41,8 @@ fn later_issue(
     entry: &Entry,
     latest: Option<(Entry, u32)>,
 ) -> Option<(Entry, u32)>
-    ensures { (log : LogOf) (before : List EntryOf) → AreIssuesOf log entry.now issues.now → IsLatestIssueOf log before latest → IsLatestIssueOf log (before ++ entry.now ∷ []) result }
+    ensures { (log : LogOf) (before : List EntryOf) → AreIssuesOf log entry.now issues.now →
+        IsLatestIssueOf log before latest → IsLatestIssueOf log (before ++ entry.now ∷ []) result }
 {
     let from = first_cycle_after(latest);
     let after = after_issues(issues, entry, from);

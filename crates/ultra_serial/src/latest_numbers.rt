@@ -50,7 +50,8 @@ impl LatestNumbers {
 
     /// Gives a processing element another number for a cell.
     pub fn set(&mut self, pe: Pe, cell: Cell, number: u32) -> Result<(), AllocError>
-        ensures { OnOk result ((p a : ℕ) → number_in self.new p a ≡ numbers_with (number_in self.old) pe cell number p a) }
+        ensures { OnOk result ((p a : ℕ) →
+            number_in self.new p a ≡ numbers_with (number_in self.old) pe cell number p a) }
     {
         let row = pe as usize;
         if row < self.rows.len() {
@@ -62,7 +63,8 @@ impl LatestNumbers {
 
     /// Adds a row of zeros while all numbers are 0.
     fn add_row(&mut self, alloc: Global, fast_cells: u32) -> Result<(), AllocError>
-        ensures { OnOk result (((p a : ℕ) → number_in self.old p a ≡ 0) → (p a : ℕ) → number_in self.new p a ≡ 0) }
+        ensures { OnOk result (((p a : ℕ) → number_in self.old p a ≡ 0) → (p a : ℕ) →
+            number_in self.new p a ≡ 0) }
     {
         self.rows.push(DenseMemory::new(alloc, &[], fast_cells)?)?;
         Ok(())

@@ -19,7 +19,7 @@ mod request_name;
 mod serial_state;
 
 pub use checking::{BreachKind, CheckFault, check};
-pub use latest::latest_issue;
+pub use latest::latest_issued_entry;
 pub use log_recorder::{log, log_and_machine};
 pub use memory::SerialMemory;
 pub use ordered_run::{OrderedRun, order};

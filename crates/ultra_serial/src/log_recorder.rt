@@ -40,7 +40,8 @@ impl LogRecorder {
 
     /// What happened in a cycle.
     fn note_all(&mut self, cycle: u32, events: &[Event]) -> Result<(), AllocError>
-        ensures { OnOk result ((l : LogKept) → Records self.old l → Records self.new (logged_all cycle events.now l)) }
+        ensures { OnOk result ((l : LogKept) → Records self.old l →
+            Records self.new (logged_all cycle events.now l)) }
     {
         for event in events {
             self.note(cycle, event)?;
@@ -50,7 +51,8 @@ impl LogRecorder {
 
     /// An event of a cycle.
     fn note(&mut self, cycle: u32, event: &Event) -> Result<(), AllocError>
-        ensures { OnOk result ((l : LogKept) → Records self.old l → Records self.new (logged cycle l event.now)) }
+        ensures { OnOk result ((l : LogKept) → Records self.old l →
+            Records self.new (logged cycle l event.now)) }
     {
         match *event {
             Event::Delivered(message) => {
@@ -102,8 +104,10 @@ impl LogRecorder {
         requires cycles { cycles ≤ MOST_CYCLES }
         requires start { machine.old.state ≡ start machine.old.settings }
         requires before { Records self.old empty_log }
-        ensures log { OnOk result (Records self.new (history machine.old.settings machine.old.program cycles).log) }
-        ensures machine { OnOk result (HasRun machine.old.settings machine.old.program cycles machine.new) }
+        ensures log { OnOk result
+            (Records self.new (history machine.old.settings machine.old.program cycles).log) }
+        ensures machine { OnOk result
+            (HasRun machine.old.settings machine.old.program cycles machine.new) }
     {
         for cycle in 0..cycles {
             machine.cycle();

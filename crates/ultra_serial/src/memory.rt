@@ -54,7 +54,8 @@ impl SerialMemory {
     /// never given a value; the cells are then as before.
     pub fn act(&mut self, cell: Cell, op: Op) -> Result<Reply, AllocError>
         ensures reply { IfOk result (λ r. r ≡ (effect op (cell_in self.old cell)).1) }
-        ensures cells { OnOk result (cell_in self.new ≡ with_cell (cell_in self.old) cell (effect op (cell_in self.old cell)).0) }
+        ensures cells { OnOk result (cell_in self.new ≡
+            with_cell (cell_in self.old) cell (effect op (cell_in self.old cell)).0) }
         ensures unchanged { OnErr result (self.new ≡ self.old) }
         ensures absent { OnErr result (value_in self.old cell ≡ None) }
     {

@@ -40,7 +40,8 @@ impl PendingRequests {
 
     /// A request was issued.
     pub fn issue(&mut self, request: Request, number: u32) -> Result<(), AllocError>
-        ensures { OnOk result ((ks : List Kept) → Keeps self.old ks → Keeps self.new (trees_after ks (Issued request number))) }
+        ensures { OnOk result ((ks : List Kept) → Keeps self.old ks →
+            Keeps self.new (trees_after ks (Issued request number))) }
     {
         let mut leaves = self.empty_list();
         leaves.push(NamedRequest {
@@ -61,10 +62,11 @@ impl PendingRequests {
         new: Pe,
         old_first: bool,
     ) -> Result<(), AllocError>
-        ensures { OnOk result ((ks : List Kept) (s x : ℕ) → Keeps self.old ks → Keeps self.new (trees_after ks (Combined s x cell old new old_first))) }
+        ensures { OnOk result ((ks : List Kept) (s x : ℕ) → Keeps self.old ks →
+            Keeps self.new (trees_after ks (Combined s x cell old new old_first))) }
     {
         let Some(leaves) = self.take(new, cell) else {
-            // nothing is left of a combination with no new request
+            // without a new request, the old one is dropped too
             self.take(old, cell);
             return Ok(());
         };
@@ -85,7 +87,8 @@ impl PendingRequests {
         of_new: Vec<NamedRequest>,
         old_first: bool,
     ) -> Result<(), AllocError>
-        ensures { OnOk result ((p a : ℕ) → chains_in self.new.rows.items p a ≡ with_joined (is_pair pe cell p a) old_first of_new.items (chains_in self.old.rows.items p a)) }
+        ensures { OnOk result ((p a : ℕ) → chains_in self.new.rows.items p a ≡ with_joined
+            (is_pair pe cell p a) old_first of_new.items (chains_in self.old.rows.items p a)) }
     {
         let row = (pe % ROWS) as usize;
         if row >= self.rows.len() {
@@ -98,7 +101,8 @@ impl PendingRequests {
     /// Takes the leaves of the request of a processing element for a cell, if there is one.
     pub fn take(&mut self, pe: Pe, cell: Cell) -> Option<Vec<NamedRequest>>
         ensures kept { (ks : List Kept) → Keeps self.old ks → Keeps self.new (without pe cell ks) }
-        ensures taken { (ks : List Kept) → Keeps self.old ks → items_in result ≡ option_map leaves_in (tree_of pe cell ks) }
+        ensures taken { (ks : List Kept) → Keeps self.old ks →
+            items_in result ≡ option_map leaves_in (tree_of pe cell ks) }
     {
         let row = (pe % ROWS) as usize;
         if row < self.rows.len() {
@@ -131,7 +135,8 @@ impl PendingRequests {
 
     /// Keeps leaves as those of the request of a processing element for a cell.
     fn put(&mut self, pe: Pe, cell: Cell, leaves: Vec<NamedRequest>) -> Result<(), AllocError>
-        ensures { OnOk result ((ks : List Kept) (t : Tree) → Keeps self.old ks → leaves.items ≡ leaves_in t → Keeps self.new (kept pe cell t ∷ ks)) }
+        ensures { OnOk result ((ks : List Kept) (t : Tree) → Keeps self.old ks →
+            leaves.items ≡ leaves_in t → Keeps self.new (kept pe cell t ∷ ks)) }
     {
         let row = (pe % ROWS) as usize;
         self.make_rows(row)?;
@@ -142,7 +147,8 @@ impl PendingRequests {
     fn make_rows(&mut self, row: usize) -> Result<(), AllocError>
         requires { row < 64 }
         ensures made { OnOk result (row < vec_len self.new.rows) }
-        ensures same { OnOk result ((p a : ℕ) → chains_in self.new.rows.items p a ≡ chains_in self.old.rows.items p a) }
+        ensures same { OnOk result ((p a : ℕ) →
+            chains_in self.new.rows.items p a ≡ chains_in self.old.rows.items p a) }
     {
         if row < self.rows.len() {
             return Ok(());
@@ -156,7 +162,8 @@ impl PendingRequests {
     /// Adds a row without requests. No request changes.
     fn add_row(&mut self) -> Result<(), AllocError>
         ensures longer { OnOk result (vec_len self.new.rows ≡ vec_len self.old.rows + 1) }
-        ensures same { OnOk result ((p a : ℕ) → chains_in self.new.rows.items p a ≡ chains_in self.old.rows.items p a) }
+        ensures same { OnOk result ((p a : ℕ) →
+            chains_in self.new.rows.items p a ≡ chains_in self.old.rows.items p a) }
     {
         self.rows.push(PendingRow::new(self.alloc))?;
         Ok(())

@@ -29,7 +29,8 @@ impl PendingRequest {
         mut of_new: Vec<NamedRequest>,
         old_first: bool,
     ) -> Result<Vec<NamedRequest>, AllocError>
-        ensures leaves { OnOk result (self.new.leaves.items ≡ leaves_in_order old_first self.old.leaves.items of_new.items) }
+        ensures leaves { OnOk result
+            (self.new.leaves.items ≡ leaves_in_order old_first self.old.leaves.items of_new.items) }
         ensures pe { self.new.pe ≡ self.old.pe }
         ensures cell { self.new.cell ≡ self.old.cell }
     {
@@ -69,12 +70,14 @@ impl PendingRow {
 
     /// Takes the leaves of the latest request of a processing element for a cell, if there is one.
     pub fn take(&mut self, pe: Pe, cell: Cell) -> Option<Vec<NamedRequest>>
-        ensures taken { leaves_under pe cell self.old.requests.items ≡ leaves_under pe cell self.new.requests.items ++ option_to_list (items_in result) }
+        ensures taken { leaves_under pe cell self.old.requests.items ≡
+            leaves_under pe cell self.new.requests.items ++ option_to_list (items_in result) }
         ensures empty { IfNone result (leaves_under pe cell self.old.requests.items ≡ []) }
-        ensures others { (p a : ℕ) → is_pair pe cell p a ≡ false → leaves_under p a self.new.requests.items ≡ leaves_under p a self.old.requests.items }
+        ensures others { (p a : ℕ) → is_pair pe cell p a ≡ false →
+            leaves_under p a self.new.requests.items ≡ leaves_under p a self.old.requests.items }
     {
         let index = latest_of(self.requests.as_slice(), pe, cell)?;
-        let PendingRequest { leaves, .. } = removed(&mut self.requests, index);
+        let PendingRequest { leaves, .. } = take_at(&mut self.requests, index);
         Some(leaves)
     }
 
@@ -87,7 +90,9 @@ impl PendingRow {
         of_new: Vec<NamedRequest>,
         old_first: bool,
     ) -> Result<Vec<NamedRequest>, AllocError>
-        ensures { OnOk result ((p a : ℕ) → leaves_under p a self.new.requests.items ≡ with_joined (is_pair pe cell p a) old_first of_new.items (leaves_under p a self.old.requests.items)) }
+        ensures { OnOk result ((p a : ℕ) →
+            leaves_under p a self.new.requests.items ≡ with_joined (is_pair pe cell p a) old_first
+            of_new.items (leaves_under p a self.old.requests.items)) }
     {
         match latest_of(self.requests.as_slice(), pe, cell) {
             Some(index) => self.requests[index].join(of_new, old_first),
@@ -99,7 +104,8 @@ impl PendingRow {
 /// The index of the latest request of a processing element for a cell.
 fn latest_of(requests: &[PendingRequest], pe: Pe, cell: Cell) -> Option<usize>
     ensures within { IfSome result (λ i. i < length requests.now) }
-    ensures found { IfSome result (λ i. (r : RequestOf) → slice_get requests.now i ≡ Some r → is_pair r.pe r.cell pe cell ≡ true) }
+    ensures found { IfSome result (λ i. (r : RequestOf) → slice_get requests.now i ≡ Some r →
+        is_pair r.pe r.cell pe cell ≡ true) }
     ensures latest { IfSome result (λ i. leaves_under pe cell (drop (i + 1) requests.now) ≡ []) }
     ensures none { IfNone result (leaves_under pe cell requests.now ≡ []) }
 {
@@ -115,10 +121,11 @@ fn latest_of(requests: &[PendingRequest], pe: Pe, cell: Cell) -> Option<usize>
 }
 
 /// Takes the request of an index out of a list. (Mostly it is the last one, and no other moves.)
-fn removed(requests: &mut Vec<PendingRequest>, index: usize) -> PendingRequest
+fn take_at(requests: &mut Vec<PendingRequest>, index: usize) -> PendingRequest
     requires { index < vec_len requests.old }
     ensures value { slice_get requests.old.items index ≡ Some result }
-    ensures rest { requests.new.items ≡ take index requests.old.items ++ drop (index + 1) requests.old.items }
+    ensures rest { requests.new.items ≡
+        take index requests.old.items ++ drop (index + 1) requests.old.items }
 {
     if index + 1 == requests.len() {
         requests.swap_remove(index)

@@ -69,7 +69,9 @@ impl<'c> RecordsByName<'c> {
     /// One entry more: that of an index of the list.
     pub fn add(&mut self, index: usize) -> Result<(), AllocError>
         requires { index < length self.old.list.now }
-        ensures records { OnOk result ((log : LogOf) (before : List EntryOf) (e : EntryOf) → slice_get self.old.list.now index ≡ Some e → Holds self.old log before → Holds self.new log (before ++ e ∷ [])) }
+        ensures records { OnOk result ((log : LogOf) (before : List EntryOf) (e : EntryOf) →
+            slice_get self.old.list.now index ≡ Some e → Holds self.old log before →
+            Holds self.new log (before ++ e ∷ [])) }
         ensures list { self.new.list.now ≡ self.old.list.now }
     {
         let entry = &self.list[index];

@@ -117,8 +117,10 @@ fn serve(
     order: &mut SerialList,
     leaves: &[NamedRequest],
 ) -> Result<(), AllocError>
-    ensures order { OnOk result (order.new.items ≡ order.old.items ++ replayed (dense_cells memory.old) leaves.now) }
-    ensures cells { OnOk result (dense_cells memory.new ≡ cells_after (dense_cells memory.old) leaves.now) }
+    ensures order { OnOk result
+        (order.new.items ≡ order.old.items ++ replayed (dense_cells memory.old) leaves.now) }
+    ensures cells { OnOk result
+        (dense_cells memory.new ≡ cells_after (dense_cells memory.old) leaves.now) }
 {
     for leaf in leaves {
         let reply = memory.act(leaf.cell, leaf.op)?;

@@ -14,12 +14,12 @@ use Rattle.ultra_model.proofs.Pairs.{one_stage, add_one}
 use Rattle.ultra_model.proofs.Levels.{two_stages, add_number}
 use Rattle.ultra_serial_law.specs.Tree.{Tree, leaf, pair}
 use Rattle.ultra_serial_law.specs.SerialList.{history}
-use Rattle.ultra_hot_spot.specs.AllAtOnce.{acts_on, events_of}
+use Rattle.ultra_hot_spot.specs.AllAtOnce.{acts_on, later_events}
 use Rattle.ultra_serial_law.specs.HotSpot.{trees_taken}
 
 -- the requests for cell a that are served in each of k cycles from cycle n on
 abbrev acts_by_cycle : Settings → List Instr → ℕ → ℕ → ℕ → List (List Request)
-acts_by_cycle c program n a count = map (λ k. acts_on a (events_of c program n a k)) (range_with_len 0 count)
+acts_by_cycle c program n a count = map (λ k. acts_on a (later_events c program n a k)) (range_with_len 0 count)
 
 -- one stage: the act is in cycle 2 of the hot requests
 one_stage_is_set : holdings (after one_stage add_one 3) ≡ pending 0 (request 0 0 (Faa 1) ∷ []) ∷ pending 1 (request 1 0 (Faa 1) ∷ []) ∷ []
@@ -39,7 +39,7 @@ two_stages_acts = refl
 abbrev added : ℕ → ℕ → Tree
 added p word = leaf record { pe = p; number = 0; cell = 0; op = Faa word }
 
-two_stages_tree : trees_taken 0 (history two_stages add_number 6).trees (events_of two_stages add_number 3 0 3) ≡
+two_stages_tree : trees_taken 0 (history two_stages add_number 6).trees (later_events two_stages add_number 3 0 3) ≡
     pair 1 0 (pair 0 0 (added 2 3) (added 0 1) true) (pair 0 2 (added 3 4) (added 1 2) true) true ∷ []
 unfolding history after start cycle reply_phase memory_phase request_phase processor_phase arriving_reply arriving_request places
 two_stages_tree = refl
@@ -48,7 +48,7 @@ two_stages_tree = refl
 abbrev three_stages : Settings
 three_stages = settings 3 4 8 4 2 []
 
-three_stages_tree : trees_taken 0 (history three_stages add_one 7).trees (events_of three_stages add_one 3 0 4) ≡
+three_stages_tree : trees_taken 0 (history three_stages add_one 7).trees (later_events three_stages add_one 3 0 4) ≡
     pair 2 0
     (pair 1 4 (pair 0 2 (added 5 1) (added 1 1) true) (pair 0 6 (added 7 1) (added 3 1) true) true)
     (pair 1 0 (pair 0 0 (added 4 1) (added 0 1) true) (pair 0 4 (added 6 1) (added 2 1) true) true)

@@ -15,7 +15,7 @@ use Rattle.ultra_model.specs.Routed.{module_of}
 use Rattle.ultra_model.proofs.Each.{each-append}
 use Rattle.ultra_model.proofs.Neighbours.{itself}
 use Rattle.ultra_model.proofs.Routes.{module_small}
-use Rattle.ultra_hot_spot.specs.AllAtOnce.{acts_on, AreAllAt, events_of}
+use Rattle.ultra_hot_spot.specs.AllAtOnce.{acts_on, AreAllAt, later_events}
 use Rattle.ultra_hot_spot.proofs.Fronts.{front_cell}
 use Rattle.ultra_hot_spot.proofs.Module.{leads_last}
 use Rattle.ultra_hot_spot.proofs.Acts.{deliveries, servings, meetings, issues, events_are, acts-append, acts_of_cycle, no_deliveries, no_meetings, no_issues}
@@ -108,12 +108,12 @@ module _ (c : Settings) (range : AreInRange c) (some_waits : 1 ≤ c.wait_places
         tree_is_kept,
       ) refl)
 
-  taken_at : trees_taken a (history c program (n + c.stages + 1)).trees (events_of c program n a (c.stages + 1)) ≡ its_tree ∷ []
+  taken_at : trees_taken a (history c program (n + c.stages + 1)).trees (later_events c program n a (c.stages + 1)) ≡ its_tree ∷ []
   taken_at =
       let next : suc c.stages ≡ c.stages + 1 = omega arith in
       let whole : n + suc c.stages ≡ n + c.stages + 1 = omega arith in
       let here = ap (λ (m : Machine). trees_taken a before.trees m.events) (events_at c range some_waits program n a w (suc c.stages)) ∙ taken_now in
-      subst (λ k. trees_taken a (history c program k).trees (events_of c program n a (c.stages + 1)) ≡ its_tree ∷ []) whole
+      subst (λ k. trees_taken a (history c program k).trees (later_events c program n a (c.stages + 1)) ≡ its_tree ∷ []) whole
       (subst (λ k. trees_taken a before.trees (after c program (n + k + 1)).events ≡ its_tree ∷ []) next here)
 
   is_hot_spot : IsHotSpot c program n a wanted its_tree

@@ -61,8 +61,8 @@ AreLeavesAdded list ks (e ∷ es) longer =
     × (map (λ (e : Entry). leaf_of_entry e) piece ≡ leaves_of (served_tree ks e))
     × AreLeavesAdded (list ++ piece) (trees_after ks e) es longer
 
--- in every cycle the trees so far can absorb each event, and the leaves of the trees that are served
--- are what the cycle adds to the serial list
+-- in every cycle the trees so far can absorb each event, and the leaves of the trees that are
+-- served are what the cycle adds to the serial list
 pub record AreExplicable (c : Settings) (program : List Instr) : Type 0 where
   pub absorbable : (n : ℕ)
       → AreAbsorbable (size c) c.most_open (history c program n).trees

@@ -8,7 +8,7 @@ use Rattle.ultra_isa.specs.declared.Instr.{Instr}
 use Rattle.ultra_model.specs.Machine.{Settings, size}
 use Rattle.ultra_model.specs.Phases.{after}
 use Rattle.ultra_model.specs.Ranges.{AreInRange}
-use Rattle.ultra_hot_spot.specs.AllAtOnce.{AreAllAt, AreServedAtOnce, events_of}
+use Rattle.ultra_hot_spot.specs.AllAtOnce.{AreAllAt, AreServedAtOnce, later_events}
 use Rattle.ultra_serial_law.specs.declared.records.NamedRequest.{NamedRequest}
 use Rattle.ultra_serial_law.specs.Tree.{Tree, Kept, leaves, height, tree_of, trees_after}
 use Rattle.ultra_serial_law.specs.SerialList.{history}
@@ -40,7 +40,7 @@ module _ (c : Settings) (program : List Instr) (n a : ℕ) where
   pub record IsHotSpot (served : Request) (tree : Tree) : Type 0 where
     pub served_at_once : AreServedAtOnce c program n a served
     pub taken : trees_taken a (history c program (n + c.stages + 1)).trees
-        (events_of c program n a (c.stages + 1)) ≡ tree ∷ []
+        (later_events c program n a (c.stages + 1)) ≡ tree ∷ []
     pub height : height tree ≡ c.stages
     pub leaves : length (leaves tree) ≡ size c
     pub of_all : (p : ℕ) → p < size c → IsOf tree p

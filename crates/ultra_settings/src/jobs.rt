@@ -40,8 +40,11 @@ impl From<AllocError> for JobsFault {
     }
 }
 
-/// The jobs that a text lists: for each the path of its settings and that of its program, as they
-/// are written.
+/// The 1 to 256 jobs that a text lists: for each the path of its settings and that of its program,
+/// as they are written.
+///
+/// `NotToml` says that the bytes aren't TOML, `BadJob` that they don't list such jobs, and
+/// `NoMemory` that memory was refused.
 pub fn jobs_from(alloc: Global, bytes: &[u8]) -> Result<Vec<(String, String)>, JobsFault>
     ensures ok { IfOk result (λ v. Gives bytes.now (all_paths v.items)) }
     ensures refused { IfErr result (ExplainsJobsFault bytes.now) }

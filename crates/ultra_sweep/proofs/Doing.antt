@@ -17,6 +17,7 @@ done_more ns i v s u w done drew did =
     ap (λ (x : View). x.drawn) did ∙ (ap (λ (x : View). x.drawn) drew ∙ (ap (λ (x : View). x.drawn ++ i ∷ []) done ∙ append_assoc v.drawn ns (i ∷ []))) in
     let finished : w.finished ≡ v.finished ++ (ns ++ i ∷ []) =
     ap (λ (x : View). x.finished) did ∙ (ap (λ (x : View). x.finished ++ i ∷ []) drew ∙ (ap (λ (x : View). x.finished ++ i ∷ []) done ∙ append_assoc v.finished ns (i ∷ []))) in
+    let claim_loads : w.claim_loads ≡ v.claim_loads = ap (λ (x : View). x.claim_loads) did ∙ (ap (λ (x : View). x.claim_loads) drew ∙ ap (λ (x : View). x.claim_loads) done) in
     let reads : w.reads ≡ v.reads = ap (λ (x : View). x.reads) did ∙ (ap (λ (x : View). x.reads) drew ∙ ap (λ (x : View). x.reads) done) in
     let spent : w.spent ≡ v.spent = ap (λ (x : View). x.spent) did ∙ (ap (λ (x : View). x.spent) drew ∙ ap (λ (x : View). x.spent) done) in
     let held : w.held ≡ v.held = ap (λ (x : View). x.held) did ∙ (ap (λ (x : View). x.held) drew ∙ ap (λ (x : View). x.held) done) in
@@ -24,7 +25,7 @@ done_more ns i v s u w done drew did =
     let limit : w.limit ≡ v.limit = ap (λ (x : View). x.limit) did ∙ (ap (λ (x : View). x.limit) drew ∙ ap (λ (x : View). x.limit) done) in
     let bound : w.bound ≡ v.bound = ap (λ (x : View). x.bound) did ∙ (ap (λ (x : View). x.bound) drew ∙ ap (λ (x : View). x.bound) done) in
     let places : w.places ≡ v.places = ap (λ (x : View). x.places) did ∙ (ap (λ (x : View). x.places) drew ∙ ap (λ (x : View). x.places) done) in
-    rw (sym drawn, sym finished, sym reads, sym spent, sym held, sym tries, sym limit, sym bound, sym places) refl
+    rw (sym drawn, sym claim_loads, sym finished, sym reads, sym spent, sym held, sym tries, sym limit, sym bound, sym places) refl
 
 -- a result of the job at a place is one of these jobs
 pub among : (text : ℕ → Job → List ℕ) (jobs : List Job) (i : ℕ) (job : Job) (r : JobResult) → i < length jobs → job ≡ get_or jobs i job → IsResultOf text i job r → IsResultAmong text jobs r

@@ -44,7 +44,8 @@ pub trait JobGate {
     ghost text: { Self → ℕ → JobOf → List ℕ };
 
     /// Runs a job, which the seat has drawn and hasn't finished, under the pass that the seat
-    /// holds. It may wait, for another job too.
+    /// holds. It may wait, for another job too. The result has the job's number, and its text or
+    /// that memory was refused.
     fn run<R: Wait>(&self, rt: &R, alloc: Global, seat: &Seat, number: u64, job: &Job) -> JobResult
         requires pass { 0 < seat.now.view.held }
         requires drawn { Contains seat.now.view.drawn number }

@@ -1,7 +1,7 @@
 //! What is written of all jobs of a sweep: their report, or a table of their rows.
 
 ghost use Rattle.std.specs.Prelude.{◌≡◌};
-ghost use Rattle.ultra_msg.specs.Bytes.{Writes};
+ghost use Rattle.ultra_msg.specs.Bytes.{WritesOrFails};
 ghost use Rattle.ultra_sweep.specs.Report.{report_text, table_text, text_as, texts_from};
 
 use crate::gathering::Gathered;
@@ -20,7 +20,7 @@ pub(crate) enum JobForm {
 /// Writes the report: for each job in order the line `job I` and its trace. After a fault the sink
 /// has taken a prefix of it.
 pub fn report<S: Sink>(gathered: &Gathered, sink: &mut S) -> Result<(), SinkFault>
-    ensures { Writes result (report_text gathered.now) (S.taken sink.old) (S.taken sink.new)
+    ensures { WritesOrFails result (report_text gathered.now) (S.taken sink.old) (S.taken sink.new)
         (S.failures sink.old) (S.failures sink.new) }
 {
     write_jobs(gathered, JobForm::Numbered, sink)
@@ -34,7 +34,7 @@ pub fn write_job_table<S: Sink>(
     names: &[u8],
     sink: &mut S,
 ) -> Result<(), SinkFault>
-    ensures { Writes result (table_text names.now gathered.now) (S.taken sink.old)
+    ensures { WritesOrFails result (table_text names.now gathered.now) (S.taken sink.old)
         (S.taken sink.new) (S.failures sink.old) (S.failures sink.new) }
 {
     write_pieces(sink, &[b"job,", names])?;
@@ -43,7 +43,7 @@ pub fn write_job_table<S: Sink>(
 
 /// Writes the texts of all jobs in order.
 fn write_jobs<S: Sink>(gathered: &Gathered, form: JobForm, sink: &mut S) -> Result<(), SinkFault>
-    ensures { Writes result (texts_from (text_as form) 0 gathered.now) (S.taken sink.old)
+    ensures { WritesOrFails result (texts_from (text_as form) 0 gathered.now) (S.taken sink.old)
         (S.taken sink.new) (S.failures sink.old) (S.failures sink.new) }
 {
     let mut number: usize = 0;
@@ -61,8 +61,8 @@ fn write_job<S: Sink>(
     text: &[u8],
     sink: &mut S,
 ) -> Result<(), SinkFault>
-    ensures { Writes result (text_as form number text.now) (S.taken sink.old) (S.taken sink.new)
-        (S.failures sink.old) (S.failures sink.new) }
+    ensures { WritesOrFails result (text_as form number text.now) (S.taken sink.old)
+        (S.taken sink.new) (S.failures sink.old) (S.failures sink.new) }
 {
     match form {
         JobForm::Numbered => {

@@ -23,6 +23,9 @@ pub enum WorkFault {
 /// The memory for all results is asked for first: `NoMemory` comes before any draw, and the seat is
 /// then as it was. The call waits for each pass by trying again, so it may never return where
 /// others keep all passes.
+///
+/// The seat has to be one of this board and to hold no pass. The limit of the board has to be the
+/// number of jobs.
 pub fn work<R: Wait, G: JobGate>(
     rt: &R,
     alloc: Global,

@@ -2,7 +2,7 @@
 use Rattle.std.proofs.Common.{◌≡◌, ℕ, List, refl}
 use Rattle.ultra_io.specs.Source.{File}
 use Rattle.ultra_inputs.specs.declared.failure.Failure.{Failure}
-use Rattle.ultra_inputs.specs.declared.failure.Failure.TheVariants.{Usage, NotWords, NotRead, NotToml, BadField, UnknownKey, NotUtf8, BadLine, BadJob, NotAnEntry, BadPe, NotFenced, NotLegal, BadParameter, NoMemory, NoThread, HeapFull, NotWritten}
+use Rattle.ultra_inputs.specs.declared.failure.Failure.TheVariants.{Usage, ArgumentsNotUtf8, NotRead, NotToml, BadField, UnknownKey, NotUtf8, BadProgramLine, BadJob, NotAnEntry, BadPe, NotFenced, NotLegal, BadParameter, NoMemory, NoThread, HeapFull, NotWritten}
 use Rattle.ultra_inputs.specs.Failure.{status_of, write_failures}
 use Rattle.ultra_inputs.specs.Inputs.{IsUnread, FileGaveNothing, not_had, not_accepted}
 use Rattle.ultra_inputs.proofs.Endings.{ends}
@@ -11,13 +11,13 @@ use Rattle.ultra_sweep_command.specs.Jobs.{ExplainsJobs}
 -- what can't be a failed write counts none
 none : (P : Failure → Type 0) → ¬ P NotWritten → (f : Failure) → P f → write_failures f ≡ 0
 none P never (Usage t) e = refl
-none P never NotWords e = refl
+none P never ArgumentsNotUtf8 e = refl
 none P never (NotRead p) e = refl
 none P never (NotToml p) e = refl
 none P never (BadField p f) e = refl
 none P never (UnknownKey p) e = refl
 none P never (NotUtf8 p) e = refl
-none P never (BadLine p l k) e = refl
+none P never (BadProgramLine p l k) e = refl
 none P never (BadJob p) e = refl
 none P never (NotAnEntry p l) e = refl
 none P never (BadPe p l) e = refl

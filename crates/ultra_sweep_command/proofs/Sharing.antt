@@ -3,8 +3,8 @@ use Rattle.std.proofs.Common.{◌≡◌, ◌∙◌, ◌+◌, ◌-◌, ℕ, List,
 use Rattle.std.proofs.lemmas.List.{map-append}
 use Rattle.std.proofs.lemmas.List.Elements.{All-append}
 use Rattle.std.specs.List.{All}
-use Rattle.ultra_board.specs.Seat.{Seated, Opened}
-use Rattle.ultra_board.specs.View.{joined_view, second_view}
+use Rattle.ultra_board.specs.Seat.{SeatState, BoardState}
+use Rattle.ultra_board.specs.View.{view_after_join, second_view}
 use Rattle.ultra_args.specs.declared.sweep_output.SweepOutput.{SweepOutput}
 use Rattle.ultra_sweep.specs.declared.job.Job.{Job}
 use Rattle.ultra_sweep.specs.declared.job.JobResult.{JobResult}
@@ -14,7 +14,7 @@ use Rattle.ultra_sweep_command.specs.declared.seat_results.SeatResults.{SeatResu
 use Rattle.ultra_sweep_command.specs.SeatResults.{IsFresh, AreSeatResults, AreWholeResults, HasRead}
 
 -- a seat stays fresh when it reads how many jobs are finished
-pub fresh-read : (board : Opened) (n : ℕ) (old new : Seated) → new.board ≡ old.board → HasRead old.view new.view → IsFresh board n old → IsFresh board n new
+pub fresh-read : (board : BoardState) (n : ℕ) (old new : SeatState) → new.board ≡ old.board → HasRead old.view new.view → IsFresh board n old → IsFresh board n new
 fresh-read board n old new same read fresh = record {
   same_board = same ∙ fresh.same_board;
   same_places = ap (λ v. v.places) read ∙ fresh.same_places;
@@ -24,8 +24,8 @@ fresh-read board n old new same read fresh = record {
 }
 
 -- a seat is split: the rest, with one place fewer, and the one
-module _ (board : Opened) (n : ℕ) (seat : Seated) where
-  pub fresh-rest : (rest : Seated) → rest ≡ record seat { view = record seat.view { places = seat.view.places - 1 } } → IsFresh board (n + 1) seat → IsFresh board n rest
+module _ (board : BoardState) (n : ℕ) (seat : SeatState) where
+  pub fresh-rest : (rest : SeatState) → rest ≡ record seat { view = record seat.view { places = seat.view.places - 1 } } → IsFresh board (n + 1) seat → IsFresh board n rest
   fresh-rest rest is fresh =
       let places : rest.view.places ≡ seat.view.places - 1 = ap (λ s. s.view.places) is in
       let all = fresh.same_places in record {
@@ -36,7 +36,7 @@ module _ (board : Opened) (n : ℕ) (seat : Seated) where
         no_pass = ap (λ s. s.view.held) is ∙ fresh.no_pass;
       }
 
-  pub fresh-one : (one : Seated) → one ≡ record seat { view = second_view seat.view } → IsFresh board n seat → IsFresh board 1 one
+  pub fresh-one : (one : SeatState) → one ≡ record seat { view = second_view seat.view } → IsFresh board n seat → IsFresh board 1 one
   fresh-one one is fresh = record {
     same_board = ap (λ s. s.board) is ∙ fresh.same_board;
     same_places = ap (λ s. s.view.places) is;
@@ -46,14 +46,14 @@ module _ (board : Opened) (n : ℕ) (seat : Seated) where
   }
 
 -- the results of a seat that is spent, and those of a seat of one place, become those of one seat
-module _ (output : SweepOutput) (board : Opened) (jobs : List Job) (n : ℕ) (seat_results other all : SeatResults) where
-  drawn-joined : all.seat.view ≡ joined_view seat_results.seat.view other.seat.view → all.results.items ≡ seat_results.results.items ++ other.results.items → seat_results.seat.view.drawn ≡ job_numbers seat_results.results.items → other.seat.view.drawn ≡ job_numbers other.results.items → all.seat.view.drawn ≡ job_numbers all.results.items
+module _ (output : SweepOutput) (board : BoardState) (jobs : List Job) (n : ℕ) (seat_results other all : SeatResults) where
+  drawn-joined : all.seat.view ≡ view_after_join seat_results.seat.view other.seat.view → all.results.items ≡ seat_results.results.items ++ other.results.items → seat_results.seat.view.drawn ≡ job_numbers seat_results.results.items → other.seat.view.drawn ≡ job_numbers other.results.items → all.seat.view.drawn ≡ job_numbers all.results.items
   drawn-joined view results first second =
       let both : seat_results.seat.view.drawn ++ other.seat.view.drawn ≡ job_numbers seat_results.results.items ++ job_numbers other.results.items =
       ap (λ ks. ks ++ other.seat.view.drawn) first ∙ ap (λ ks. job_numbers seat_results.results.items ++ ks) second in
       ap (λ v. v.drawn) view ∙ (both ∙ (sym (map-append (λ (r : JobResult). r.number) seat_results.results.items other.results.items) ∙ ap job_numbers (sym results)))
 
-  pub whole-joined : all.seat ≡ record seat_results.seat { view = joined_view seat_results.seat.view other.seat.view } → all.results.items ≡ seat_results.results.items ++ other.results.items → AreWholeResults output board jobs n seat_results → AreSeatResults output board jobs 1 other → AreWholeResults output board jobs (n + 1) all
+  pub whole-joined : all.seat ≡ record seat_results.seat { view = view_after_join seat_results.seat.view other.seat.view } → all.results.items ≡ seat_results.results.items ++ other.results.items → AreWholeResults output board jobs n seat_results → AreSeatResults output board jobs 1 other → AreWholeResults output board jobs (n + 1) all
   whole-joined seat results whole part =
       let view = ap (λ s. s.view) seat in record {
         part = record {

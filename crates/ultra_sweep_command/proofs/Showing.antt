@@ -3,7 +3,7 @@ use Rattle.std.proofs.Common.{◌≡◌, ◌∙◌, ◌<◌, ◌≤◌, ◌+◌,
 use Rattle.std.proofs.lemmas.Grind.{flat_map-append}
 use Rattle.std.specs.Prelude.{Result, Ok, Err}
 use Rattle.std.specs.Result.{is_err}
-use Rattle.ultra_msg.specs.Bytes.{TakesPrefix, Writes}
+use Rattle.ultra_msg.specs.Bytes.{TakesPrefix, WritesOrFails}
 use Rattle.ultra_msg.proofs.Prefixes.{takes_all, takes_behind, takes_more, takes_none}
 use Rattle.ultra_io.specs.Account.{SinkState}
 use Rattle.ultra_sweep_command.specs.declared.meter.ProgressMeter.{ProgressMeter}
@@ -64,7 +64,7 @@ module _ (m : ProgressMeter) (k : ℕ) (start now : SinkState) (so_far : HasShow
   }
 
   -- else it shows the count, and is broken where that fails
-  pub shown-more : {T E : Type 0} → m.broken ≡ false → (then : SinkState) (r : Result T E) → Writes r (progress_line m.count k) now.taken then.taken now.failures then.failures → HasShown (record m { last = k; broken = is_err r }) start then
+  pub shown-more : {T E : Type 0} → m.broken ≡ false → (then : SinkState) (r : Result T E) → WritesOrFails r (progress_line m.count k) now.taken then.taken now.failures then.failures → HasShown (record m { last = k; broken = is_err r }) start then
   shown-more sound then (Ok x) written =
       let s = so_far.sound sound in
       record {

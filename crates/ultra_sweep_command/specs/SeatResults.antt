@@ -1,6 +1,6 @@
 -- the threads of a sweep, and what they bring back; this project's profile
 use Rattle.std.specs.Prelude.{◌≡◌, ℕ, ◌+◌, ◌-◌, min, if◌then◌else◌, List, [], All, true, length}
-use Rattle.ultra_board.specs.Seat.{Seated, Opened}
+use Rattle.ultra_board.specs.Seat.{SeatState, BoardState}
 use Rattle.ultra_board.specs.declared.rule.View.{View}
 use Rattle.ultra_args.specs.declared.sweep_output.SweepOutput.{SweepOutput}
 use Rattle.ultra_sweep.specs.declared.job.Job.{Job}
@@ -17,7 +17,7 @@ threads_of plan =
     if plan.progress then min plan.workers 63 else plan.workers - 1
 
 -- a seat with this many places that has drawn nothing and holds no pass
-pub record IsFresh (board : Opened) (places : ℕ) (seat : Seated) : Type 0 where
+pub record IsFresh (board : BoardState) (places : ℕ) (seat : SeatState) : Type 0 where
   pub same_board : seat.board ≡ board.id
   pub same_places : seat.view.places ≡ places
   pub same_limit : seat.view.limit ≡ board.limits.limit
@@ -25,7 +25,7 @@ pub record IsFresh (board : Opened) (places : ℕ) (seat : Seated) : Type 0 wher
   pub no_pass : seat.view.held ≡ 0
 
 -- a seat with this many places, and a result for each job that it has drawn
-pub record AreSeatResults (output : SweepOutput) (board : Opened) (jobs : List Job) (places : ℕ)
+pub record AreSeatResults (output : SweepOutput) (board : BoardState) (jobs : List Job) (places : ℕ)
     (seat_results : SeatResults) : Type 0 where
   pub same_board : seat_results.seat.board ≡ board.id
   pub same_places : seat_results.seat.view.places ≡ places
@@ -34,8 +34,8 @@ pub record AreSeatResults (output : SweepOutput) (board : Opened) (jobs : List J
   pub results : All (IsResultAmong (job_output output) jobs) seat_results.results.items
 
 -- all of it: no job is left to draw
-pub record AreWholeResults (output : SweepOutput) (board : Opened) (jobs : List Job) (places : ℕ)
-    (seat_results : SeatResults) : Type 0 where
+pub record AreWholeResults (output : SweepOutput) (board : BoardState) (jobs : List Job)
+    (places : ℕ) (seat_results : SeatResults) : Type 0 where
   pub part : AreSeatResults output board jobs places seat_results
   pub spent : seat_results.seat.view.spent ≡ true
 

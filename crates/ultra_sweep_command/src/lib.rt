@@ -2,7 +2,7 @@
 #![tactic(auto)]
 
 ghost use Rattle.std.specs.Prelude.{◌≡◌, ◌≢◌, ◌+◌, List, IfErr, OnOk};
-ghost use Rattle.ultra_msg.specs.Bytes.{Writes};
+ghost use Rattle.ultra_msg.specs.Bytes.{WritesOrFails};
 ghost use Rattle.ultra_sweep.specs.declared.job.Job.{Job as JobOf};
 ghost use Rattle.ultra_sweep.specs.Job.{texts_of};
 ghost use Rattle.ultra_sweep_command.specs.Output.{job_output, swept_text};
@@ -31,7 +31,7 @@ use std::alloc::Global;
 use std::sync::Wait;
 use std::thread::Threads;
 use ultra_args::{JobsAtOnce, SweepOutput, Workers};
-use ultra_inputs::{Failure, give_up};
+use ultra_inputs::{Failure, report_failure};
 use ultra_io::Source;
 use ultra_measure::measure_names;
 use ultra_msg::{Sink, SinkFault};
@@ -86,11 +86,11 @@ pub fn sweep<R: Threads + Wait + Sync, F: Source, O: Sink, E: Sink>(
 {
     let list = match list_jobs(alloc, jobs_path, source) {
         Ok(list) => list,
-        Err(failure) => return give_up(&failure, err),
+        Err(failure) => return report_failure(&failure, err),
     };
     match sweep_jobs(rt, alloc, list.as_slice(), &plan, source, out, err) {
         Ok(()) => 0,
-        Err(failure) => give_up(&failure, err),
+        Err(failure) => report_failure(&failure, err),
     }
 }
 
@@ -138,7 +138,7 @@ fn write_output<O: Sink>(
     out: &mut O,
 ) -> Result<(), SinkFault>
     ensures { (jobs : List JobOf) → gathered.now ≡ texts_of (job_output output.now) jobs →
-        Writes result (swept_text output.now jobs) (O.taken out.old) (O.taken out.new)
+        WritesOrFails result (swept_text output.now jobs) (O.taken out.old) (O.taken out.new)
         (O.failures out.old) (O.failures out.new) }
 {
     match *output {

@@ -20,8 +20,8 @@ pub(crate) fn list_jobs<'p, F: Source>(
 ) -> Result<Vec<(String, String)>, Failure<'p>>
     ensures ok { IfOk result (λ list. FileGave Gives path.now (F.files source.old)
         (F.files source.new) (all_paths list.items)) }
-    ensures err { IfErr result (FileGaveNothing ExplainsJobs path.now (F.files source.old)
-        (F.files source.new)) }
+    ensures err { IfErr result
+        (FileGaveNothing ExplainsJobs path.now (F.files source.old) (F.files source.new)) }
     ensures still { OnOk result (F.failures source.new ≡ F.failures source.old) }
     ensures counted { IfErr result
         (λ f. F.failures source.new ≡ F.failures source.old + read_failures f) }
@@ -56,8 +56,8 @@ pub(crate) fn read_jobs<'l, F: Source>(
 ) -> Result<Vec<Job>, Failure<'l>>
     ensures ok { IfOk result (λ jobs. GaveJobs (all_paths list.now) (F.files source.old)
         (F.files source.new) jobs.items) }
-    ensures err { IfErr result (GaveNoJobs (all_paths list.now) (F.files source.old)
-        (F.files source.new)) }
+    ensures err { IfErr result
+        (GaveNoJobs (all_paths list.now) (F.files source.old) (F.files source.new)) }
     ensures still { OnOk result (F.failures source.new ≡ F.failures source.old) }
     ensures counted { IfErr result
         (λ f. F.failures source.new ≡ F.failures source.old + read_failures f) }

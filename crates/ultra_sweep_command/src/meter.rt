@@ -1,7 +1,7 @@
 //! How many jobs are finished, as standard error shows it.
 
 ghost use Rattle.std.specs.Prelude.{◌≡◌, false, min, max};
-ghost use Rattle.ultra_msg.specs.Bytes.{Writes};
+ghost use Rattle.ultra_msg.specs.Bytes.{WritesOrFails};
 ghost use Rattle.ultra_io.specs.Account.{SinkState};
 ghost use Rattle.ultra_inputs.specs.Shown.{stream};
 ghost use Rattle.ultra_sweep_command.specs.Shown.{progress_line, HasShown};
@@ -55,8 +55,8 @@ impl ProgressMeter {
 
 /// Writes the line that says that `finished` of `count` jobs are finished.
 fn write_count<E: Sink>(finished: u64, count: u64, err: &mut E) -> Result<(), SinkFault>
-    ensures { Writes result (progress_line count finished) (E.taken err.old) (E.taken err.new)
-        (E.failures err.old) (E.failures err.new) }
+    ensures { WritesOrFails result (progress_line count finished) (E.taken err.old)
+        (E.taken err.new) (E.failures err.old) (E.failures err.new) }
 {
     let mut finished_digits = Buffer::new();
     let mut count_digits = Buffer::new();

@@ -62,13 +62,11 @@ pub(crate) fn run_jobs<R: Threads + Wait + Sync, E: Sink>(
     err: &mut E,
 ) -> Result<Gathered, SweepFault>
     ensures ok { IfOk result (λ g. g ≡ texts_of (job_output plan.now.output) jobs.now) }
-    ensures all_shown { OnOk result (IsProgressShown plan.now.progress
-        (length jobs.now) (length jobs.now)
-        (stream (E.taken err.old) (E.failures err.old))
+    ensures all_shown { OnOk result (IsProgressShown plan.now.progress (length jobs.now)
+        (length jobs.now) (stream (E.taken err.old) (E.failures err.old))
         (stream (E.taken err.new) (E.failures err.new))) }
     ensures some_shown { OnErr result ((last : ℕ) × IsProgressShown plan.now.progress
-        (length jobs.now) last
-        (stream (E.taken err.old) (E.failures err.old))
+        (length jobs.now) last (stream (E.taken err.old) (E.failures err.old))
         (stream (E.taken err.new) (E.failures err.new))) }
 {
     let count = jobs.len() as u64;

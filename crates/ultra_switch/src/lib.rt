@@ -3,7 +3,8 @@
 //! processing elements.
 //!
 //! Queues, wait buffers and pairwise combining are the 1983 paper's. Which entry combines and when,
-//! the places of the queues and their room rules are this project's profile.
+//! a wait buffer for each queue toward memory, the places of the queues and their room rules are
+//! this project's profile.
 #![tactic(auto)]
 
 ghost use Rattle.std.specs.Prelude.{◌≡◌, ℕ, ◌≤◌, IfOk};
@@ -113,8 +114,10 @@ impl Switch {
     ) -> Result<Switch, SwitchFault>
         requires requests { request_places ≤ MOST_REQUEST_PLACES }
         requires records { wait_places ≤ MOST_WAIT_PLACES }
-        ensures to_mm { IfOk result (λ s. let q = empty_requests request_places wait_places in (s.to_mm.zero ≡ q) × (s.to_mm.one ≡ q)) }
-        ensures to_pe { IfOk result (λ s. let q = empty_replies reply_places in (s.to_pe.zero ≡ q) × (s.to_pe.one ≡ q)) }
+        ensures to_mm { IfOk result (λ s. let q = empty_requests request_places wait_places in
+            (s.to_mm.zero ≡ q) × (s.to_mm.one ≡ q)) }
+        ensures to_pe { IfOk result (λ s. let q = empty_replies reply_places in
+            (s.to_pe.zero ≡ q) × (s.to_pe.one ≡ q)) }
     {
         let to_mm = Ports {
             zero: ToMm::new(alloc, request_places, wait_places)?,

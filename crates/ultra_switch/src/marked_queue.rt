@@ -25,7 +25,8 @@ impl Model for MarkedQueue {
 
     ghost Value = { MarkedEntries };
 
-    ghost view = { λ q. record { entries = marked_by q.marks q.requests.items; places = q.requests.capacity } };
+    ghost view = { λ q.
+        record { entries = marked_by q.marks q.requests.items; places = q.requests.capacity } };
 
     ghost invariant = { λ q. IsMarked q.marks q.requests.items q.requests.capacity };
 }
@@ -88,7 +89,8 @@ impl MarkedQueue {
     /// Puts a request without a mark at the end. There has to be a free place.
     pub(crate) fn push(&mut self, request: RequestPacket)
         requires { length self.old.entries < self.old.places }
-        ensures { self.new ≡ record self.old { entries = self.old.entries ++ entry request false ∷ [] } }
+        ensures { self.new ≡
+            record self.old { entries = self.old.entries ++ entry request false ∷ [] } }
     {
         self.requests.push(request);
     }
@@ -106,7 +108,8 @@ impl MarkedQueue {
     /// Puts a marked request in the place of another.
     pub(crate) fn replace(&mut self, place: usize, request: RequestPacket)
         requires { place < length self.old.entries }
-        ensures { self.new ≡ record self.old { entries = slice_set self.old.entries place (entry request true) } }
+        ensures { self.new ≡
+            record self.old { entries = slice_set self.old.entries place (entry request true) } }
     {
         self.requests.set(place, request);
         self.marks = self.marks.with(place);
@@ -122,7 +125,8 @@ impl MarkedQueue {
         (0..self.len()).find(
             |&place|
                 requires { place < length self.now.entries }
-                ensures { IfSome (slice_get self.entry.now.entries place) (λ e. result ≡ can_combine request.entry.now e) }
+                ensures { IfSome (slice_get self.entry.now.entries place) (λ e.
+                    result ≡ can_combine request.entry.now e) }
             { can_combine(request, self.entry(place)) },
         )
     }

@@ -74,7 +74,7 @@ impl ToPe {
         Some(self.queue.front()?.message())
     }
 
-    /// A reply comes to the end of the queue.
+    /// A reply comes to the end of the queue, which must have a free place.
     pub fn put(&mut self, reply: ReplyMessage)
         requires { length self.old.replies < self.old.places }
         ensures { self.new ≡ with_reply self.old reply }

@@ -29,9 +29,21 @@ impl Model for ToMm {
 
     ghost Value = { SizedLane };
 
-    ghost view = { λ q. record { lane = record { queue = q.queue.entries; records = q.records.items }; request_places = q.queue.places; wait_places = q.wait_places } };
+    ghost view = { λ q. record {
+      lane = record {
+        queue = q.queue.entries;
+        records =
+            q.records.items;
+      };
+      request_places = q.queue.places;
+      wait_places = q.wait_places;
+    } };
 
-    ghost invariant = { λ q. IsWithinPlaces record { lane = record { queue = q.queue.entries; records = q.records.items }; request_places = q.queue.places; wait_places = q.wait_places } };
+    ghost invariant = { λ q. IsWithinPlaces record {
+      lane = record { queue = q.queue.entries; records = q.records.items };
+      request_places = q.queue.places;
+      wait_places = q.wait_places;
+    } };
 }
 
 impl ToMm {
@@ -101,7 +113,8 @@ impl ToMm {
 
     /// Whether both the queue and the wait buffer are empty.
     pub fn is_idle(&self) -> bool
-        ensures { result ≡ (length self.now.lane.queue == 0) && (length self.now.lane.records == 0) }
+        ensures { result ≡ (length self.now.lane.queue == 0) &&
+            (length self.now.lane.records == 0) }
     {
         self.is_empty() && self.records.is_empty()
     }
@@ -139,7 +152,7 @@ impl ToMm {
     /// A request arrives. If the wait buffer has a free place, it combines with the frontmost entry
     /// for its cell that hasn't combined in this queue. If there is no such entry or no free place,
     /// it goes to the end of the queue. The record of a combination goes behind those that are
-    /// there.
+    /// there. The queue must have a free place.
     pub fn arrive(&mut self, request: Request) -> Arrived
         requires { length self.old.lane.queue < self.old.request_places }
         ensures outcome { result ≡ arrival_of self.old request }

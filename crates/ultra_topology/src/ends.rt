@@ -23,7 +23,11 @@ pub fn send_from_end<M: Message>(
     requires number { number < 2 ^ net }
     requires leads { LeadsTo (M.inlets net) net (number_of_link net net number) target }
     requires stages { links.old.stages ≡ net }
-    ensures { links.new ≡ record links.old { table = put_on links.old.table (number_of_link net net number) message; targets = links.new.targets } }
+    ensures { links.new ≡ record links.old {
+      table = put_on links.old.table
+          (number_of_link net net number) message;
+      targets = links.new.targets;
+    } }
 {
     // for the prover: the number of positions is even, and at most 64
     let _even = net.size();
@@ -41,7 +45,11 @@ pub fn take_for_element(
     requires element { IsElement net unit pe }
     requires stages { links.old.stages ≡ net }
     ensures incoming { result ≡ on_link links.old.table (delivery_link net pe) }
-    ensures rest { links.new ≡ record links.old { table = slice_set links.old.table (delivery_link net pe) None; targets = links.new.targets } }
+    ensures rest { links.new ≡ record links.old {
+      table = slice_set links.old.table
+          (delivery_link net pe) None;
+      targets = links.new.targets;
+    } }
 {
     // for the prover: a network has 1 to `MOST_STAGES` stages
     let _stages = net.stages();
@@ -61,7 +69,11 @@ pub fn take_for_module(
     requires target { IsModule net unit module_number }
     requires stages { links.old.stages ≡ net }
     ensures incoming { result ≡ on_link links.old.table (memory_link net module_number) }
-    ensures rest { links.new ≡ record links.old { table = slice_set links.old.table (memory_link net module_number) None; targets = links.new.targets } }
+    ensures rest { links.new ≡ record links.old {
+      table = slice_set links.old.table
+          (memory_link net module_number) None;
+      targets = links.new.targets;
+    } }
 {
     let request = links.take(link_number(net, net.stages() - 1, module_number));
     links.clear(unit);

@@ -1,8 +1,9 @@
 //! The units of a machine by their numbers: sets of them, and the links between them.
 //!
 //! `Wiring` says which unit has a number and what is beside each switch, and `Links` has the
-//! message on each link. Others say whether there is room for them where they go, and by which
-//! links they come.
+//! message on each link. `find_reply_ways`, `has_request_way` and `has_way_from_element` say
+//! whether a message may go on; `reply_inlets` and `request_inlets` say by which links messages
+//! come to a unit.
 #![tactic(auto)]
 
 mod ends;

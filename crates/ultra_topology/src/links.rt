@@ -82,7 +82,8 @@ impl<M: Message> Links<M> {
     #[inline(always)]
     pub fn targets(&self) -> &UnitSet
         ensures value { result.now ≡ self.now.targets }
-        ensures right { AreTargets (M.inlets self.now.stages) self.now.stages self.now.table result.now }
+        ensures right { AreTargets (M.inlets self.now.stages) self.now.stages self.now.table
+            result.now }
     {
         &self.targets
     }
@@ -91,9 +92,13 @@ impl<M: Message> Links<M> {
     #[inline(always)]
     pub fn put(&mut self, link: usize, target: UnitNumber, message: Option<M>)
         requires leads { LeadsTo (M.inlets self.old.stages) self.old.stages link target }
-        ensures table { self.new ≡ record self.old { table = put_on self.old.table link message; targets = self.new.targets } }
+        ensures table { self.new ≡ record self.old {
+          table = put_on self.old.table link message;
+          targets = self.new.targets;
+        } }
         ensures there { is_some message ≡ true → has_unit self.new.targets target ≡ true }
-        ensures kept { (k : ℕ) → has_unit self.old.targets k ≡ true → has_unit self.new.targets k ≡ true }
+        ensures kept { (k : ℕ) → has_unit self.old.targets k ≡ true →
+            has_unit self.new.targets k ≡ true }
         ensures others { AreSameBut target self.old.targets self.new.targets }
     {
         let Some(message) = message else {
@@ -129,7 +134,10 @@ impl<M: Message> Links<M> {
         requires small { unit < MOST_UNITS }
         requires inlets { AreInlets (M.inlets self.old.stages) self.old.stages unit inlets }
         ensures value { result ≡ taken_by_turns self.old.table inlets }
-        ensures rest { self.new ≡ record self.old { table = without_both self.old.table inlets; targets = self.new.targets } }
+        ensures rest { self.new ≡ record self.old {
+          table = without_both self.old.table inlets;
+          targets = self.new.targets;
+        } }
         ensures others { AreSameBut unit self.old.targets self.new.targets }
         ensures gone { has_unit self.new.targets unit ≡ false }
     {
@@ -144,7 +152,10 @@ impl<M: Message> Links<M> {
     pub fn add_messages_to(&mut self, unit: usize, inlets: Ports<usize>, messages: Ports<Option<M>>)
         requires small { unit < MOST_UNITS }
         requires inlets { AreInlets (M.inlets self.old.stages) self.old.stages unit inlets }
-        ensures received { self.new ≡ record self.old { table = put_on_both self.old.table inlets messages; targets = self.new.targets } }
+        ensures received { self.new ≡ record self.old {
+          table = put_on_both self.old.table inlets messages;
+          targets = self.new.targets;
+        } }
         ensures others { AreSameBut unit self.old.targets self.new.targets }
         ensures count { length self.old.table ≡ link_count self.old.stages }
     {

@@ -13,7 +13,7 @@ use crate::unit_set::{UnitNumber, UnitSet, WORDS};
 pub(crate) struct Walk {
     /// The unit.
     pub(crate) unit: UnitNumber,
-    /// The units behind it in its word: bit i says it of the one whose number is greater by i + 1.
+    /// The units behind it in its word: bit i stands for the unit whose number is greater by i + 1.
     rest: u64,
 }
 
@@ -23,7 +23,8 @@ impl Walk {
     pub(crate) fn go_on(self, set: &UnitSet) -> Option<Walk>
         requires { IsWalk self }
         ensures some { IfSome result (HasCome (comes_to self set.now) (self.unit + 1)) }
-        ensures none { IfNone result ((k : ℕ) → self.unit + 1 ≤ k → comes_to self set.now k ≡ false) }
+        ensures none { IfNone result ((k : ℕ) → self.unit + 1 ≤ k →
+            comes_to self set.now k ≡ false) }
     {
         let unit = self.unit.number();
         if self.rest != 0 {
@@ -76,16 +77,20 @@ pub trait Visit<T> {
     /// A superset of the units that have something to do.
     fn units<'t>(&self, target: &'t T) -> &'t UnitSet
         ensures idle { (k : ℕ) → has_unit result.now k ≡ false → is_idle self.now k target.now }
-        ensures still { (k : ℕ) → is_idle self.now k target.now → visited self.now k target.now ≡ target.now };
+        ensures still { (k : ℕ) → is_idle self.now k target.now →
+            visited self.now k target.now ≡ target.now };
 
     /// Visits a unit. Where the conditions of later visits are met before it, they are met after it
     /// too, and later units that had nothing to do have nothing to do after it.
     fn visit(&self, target: &mut T, unit: UnitNumber)
         requires can { can_visit self.now unit target.old }
         ensures visited { target.new ≡ visited self.now unit target.old }
-        ensures later { (k : ℕ) → unit < k → can_visit self.now k target.old → can_visit self.now k target.new }
-        ensures idle { (k : ℕ) → unit < k → is_idle self.now k target.old → is_idle self.now k target.new }
-        ensures still { (k : ℕ) → is_idle self.now k target.new → visited self.now k target.new ≡ target.new };
+        ensures later { (k : ℕ) → unit < k → can_visit self.now k target.old →
+            can_visit self.now k target.new }
+        ensures idle { (k : ℕ) → unit < k → is_idle self.now k target.old →
+            is_idle self.now k target.new }
+        ensures still { (k : ℕ) → is_idle self.now k target.new →
+            visited self.now k target.new ≡ target.new };
 }
 
 /// Visits all units in the order of their numbers. It skips those that have nothing to do. With

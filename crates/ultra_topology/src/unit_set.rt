@@ -223,8 +223,8 @@ impl UnitSet {
         Some(Walk::from_word(self, from / 64 + 1)?.unit.number())
     }
 
-    /// The units of the set from one number on that are in the same word: bit i says it of the unit
-    /// whose number is greater by i. The number has to be below `MOST_UNITS`.
+    /// The units of the set from one number on that are in the same word: bit i stands for the
+    /// unit whose number is greater by i. The number has to be below `MOST_UNITS`.
     #[inline(always)]
     #[tactic(auto, using(crate::proofs::Set::bits_from))]
     pub fn rest_of_word(&self, from: usize) -> u64

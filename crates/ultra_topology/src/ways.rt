@@ -42,7 +42,8 @@ pub fn element_target<const SMALL: bool>(net: Net, pe: u32) -> UnitNumber
 /// are the switches without room for replies.
 #[inline(always)]
 pub fn find_reply_ways(closed: &UnitSet, stage: u32, targets: &Ports<UnitNumber>) -> Ports<bool>
-    ensures { (net index : ℕ) → targets.now ≡ targets_of_replies net stage index → result ≡ reply_ways closed.now net stage index }
+    ensures { (net index : ℕ) → targets.now ≡ targets_of_replies net stage index →
+        result ≡ reply_ways closed.now net stage index }
 {
     Ports {
         zero: stage == 0 || !closed.has(targets.zero),
@@ -81,7 +82,8 @@ pub fn has_request_way(
     head: Option<RequestPacket>,
 ) -> bool
     requires { stage < net }
-    ensures { (position : ℕ) → target ≡ target_of_request net stage position → result ≡ way_of_request closed.now net stage position head }
+    ensures { (position : ℕ) → target ≡ target_of_request net stage position →
+        result ≡ way_of_request closed.now net stage position head }
 {
     let Some(request) = head else {
         return false;
@@ -101,7 +103,8 @@ pub fn has_way_from_element(
     target: UnitNumber,
     head: Option<RequestPacket>,
 ) -> bool
-    ensures { (pe : ℕ) → target ≡ number_of_switch net 0 (shuffled net pe / 2) → result ≡ way_from_element closed.now net pe head }
+    ensures { (pe : ℕ) → target ≡ number_of_switch net 0 (shuffled net pe / 2) →
+        result ≡ way_from_element closed.now net pe head }
 {
     let Some(request) = head else {
         return false;

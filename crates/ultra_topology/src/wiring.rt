@@ -212,7 +212,8 @@ impl Wiring {
     #[inline(always)]
     pub fn request_links(&self, unit: UnitNumber) -> Ports<usize>
         requires { unit < count_of_switches self.now }
-        ensures value { result ≡ links_of_requests self.now (stage_of self.now unit) (index_of self.now unit) }
+        ensures value { result ≡
+            links_of_requests self.now (stage_of self.now unit) (index_of self.now unit) }
         ensures inlets { AreInlets (inlets_of_requests self.now) self.now unit result }
     {
         // for the prover: a network has 1 to `MOST_STAGES` stages
@@ -225,7 +226,8 @@ impl Wiring {
     pub fn request_targets<const SMALL: bool>(&self, unit: UnitNumber) -> Ports<UnitNumber>
         requires switch { unit < count_of_switches self.now }
         requires small { SMALL ≡ true → IsSmall self.now }
-        ensures value { result ≡ targets_of_requests self.now (stage_of self.now unit) (index_of self.now unit) }
+        ensures value { result ≡
+            targets_of_requests self.now (stage_of self.now unit) (index_of self.now unit) }
         ensures lead { LeadOn (inlets_of_requests self.now) self.now unit result }
     {
         // for the prover: a network has 1 to `MOST_STAGES` stages
@@ -237,7 +239,8 @@ impl Wiring {
     #[inline(always)]
     pub fn reply_links(&self, unit: UnitNumber) -> Ports<usize>
         requires { unit < count_of_switches self.now }
-        ensures value { result ≡ links_of_replies self.now (stage_of self.now unit) (index_of self.now unit) }
+        ensures value { result ≡
+            links_of_replies self.now (stage_of self.now unit) (index_of self.now unit) }
         ensures inlets { AreInlets (inlets_of_replies self.now) self.now unit result }
     {
         // for the prover: a network has 1 to `MOST_STAGES` stages
@@ -250,7 +253,8 @@ impl Wiring {
     pub fn reply_targets<const SMALL: bool>(&self, unit: UnitNumber) -> Ports<UnitNumber>
         requires switch { unit < count_of_switches self.now }
         requires small { SMALL ≡ true → IsSmall self.now }
-        ensures value { result ≡ targets_of_replies self.now (stage_of self.now unit) (index_of self.now unit) }
+        ensures value { result ≡
+            targets_of_replies self.now (stage_of self.now unit) (index_of self.now unit) }
         ensures lead { LeadOn (inlets_of_replies self.now) self.now unit result }
     {
         // for the prover: a network has 1 to `MOST_STAGES` stages

@@ -48,11 +48,15 @@ pub fn run<R: Threads + Wait + Sync, G: Gate + Sync, S: Sink>(
 ) -> Result<(), RunFault>
     requires some_worker { 1 ≤ workers }
     requires most_workers { workers ≤ 64 }
-    ensures headline { OnOk result ((written : List ℕ) × (S.taken sink.new ≡ S.taken sink.old ++ written) × Headline config.now program.now written) }
+    ensures headline { OnOk result ((written : List ℕ) ×
+        (S.taken sink.new ≡ S.taken sink.old ++ written) ×
+        Headline config.now program.now written) }
     ensures ok { OnOk result (S.taken sink.new ≡ S.taken sink.old ++ trace config.now program.now) }
     ensures still { OnOk result (S.failures sink.new ≡ S.failures sink.old) }
-    ensures err { OnErr result (TakesPrefix (trace config.now program.now) (S.taken sink.old) (S.taken sink.new)) }
-    ensures counted { IfErr result (λ e. S.failures sink.new ≡ S.failures sink.old + sink_faults e) }
+    ensures err { OnErr result
+        (TakesPrefix (trace config.now program.now) (S.taken sink.old) (S.taken sink.new)) }
+    ensures counted { IfErr result (λ e.
+        S.failures sink.new ≡ S.failures sink.old + sink_faults e) }
     ensures alone { workers ≡ 1 → IfErr result (λ e. e ≢ NoThread) }
     ensures memory_first { workers ≡ 1 →
         IfErr result (λ e. e ≡ NoMemory → S.taken sink.new ≡ S.taken sink.old) }
@@ -84,10 +88,13 @@ pub fn run_part<R: Threads + Wait + Sync, G: Gate + Sync, S: Sink>(
 ) -> Result<(), RunFault>
     requires some_worker { 1 ≤ workers }
     requires most_workers { workers ≤ 64 }
-    ensures ok { OnOk result (S.taken sink.new ≡ S.taken sink.old ++ part_of part config.now program.now) }
+    ensures ok { OnOk result
+        (S.taken sink.new ≡ S.taken sink.old ++ part_of part config.now program.now) }
     ensures still { OnOk result (S.failures sink.new ≡ S.failures sink.old) }
-    ensures err { OnErr result (TakesPrefix (part_of part config.now program.now) (S.taken sink.old) (S.taken sink.new)) }
-    ensures counted { IfErr result (λ e. S.failures sink.new ≡ S.failures sink.old + sink_faults e) }
+    ensures err { OnErr result
+        (TakesPrefix (part_of part config.now program.now) (S.taken sink.old) (S.taken sink.new)) }
+    ensures counted { IfErr result (λ e.
+        S.failures sink.new ≡ S.failures sink.old + sink_faults e) }
     ensures alone { workers ≡ 1 → IfErr result (λ e. e ≢ NoThread) }
     ensures memory_first { workers ≡ 1 →
         IfErr result (λ e. e ≡ NoMemory → S.taken sink.new ≡ S.taken sink.old) }
@@ -115,10 +122,14 @@ fn run_together<R: Threads + Wait + Sync, G: Gate + Sync, T: RunText, S: Sink>(
     requires most_workers { workers ≤ 64 }
     requires takes { (count : ℕ) → T.takes count }
     requires ready { T.is_ready text config.now program.now 0 }
-    ensures ok { OnOk result (S.taken sink.new ≡ S.taken sink.old ++ run_text T.opening (T.lines text) T.closing config.now program.now) }
+    ensures ok { OnOk result (S.taken sink.new ≡
+        S.taken sink.old ++ run_text T.opening (T.lines text) T.closing config.now program.now) }
     ensures still { OnOk result (S.failures sink.new ≡ S.failures sink.old) }
-    ensures err { OnErr result (TakesPrefix (run_text T.opening (T.lines text) T.closing config.now program.now) (S.taken sink.old) (S.taken sink.new)) }
-    ensures counted { IfErr result (λ e. S.failures sink.new ≡ S.failures sink.old + sink_faults e) }
+    ensures err { OnErr result
+        (TakesPrefix (run_text T.opening (T.lines text) T.closing config.now program.now)
+        (S.taken sink.old) (S.taken sink.new)) }
+    ensures counted { IfErr result (λ e.
+        S.failures sink.new ≡ S.failures sink.old + sink_faults e) }
 {
     let blocks = new_blocks(alloc, config, program, workers as u8)?;
     write_run_together(rt, alloc, blocks, workers, gate, text, sink)

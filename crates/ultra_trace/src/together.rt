@@ -38,10 +38,14 @@ pub fn write_run_together<R: Threads + Wait + Sync, G: Gate + Sync, T: RunText, 
     requires takes { (count : ℕ) → T.takes count }
     requires ready { T.is_ready text blocks.config blocks.program 0 }
     requires dealt { IsDealtOut workers blocks.partition }
-    ensures ok { OnOk result (S.taken sink.new ≡ S.taken sink.old ++ run_text T.opening (T.lines text) T.closing blocks.config blocks.program) }
+    ensures ok { OnOk result (S.taken sink.new ≡ S.taken sink.old ++
+        run_text T.opening (T.lines text) T.closing blocks.config blocks.program) }
     ensures still { OnOk result (S.failures sink.new ≡ S.failures sink.old) }
-    ensures err { OnErr result (TakesPrefix (run_text T.opening (T.lines text) T.closing blocks.config blocks.program) (S.taken sink.old) (S.taken sink.new)) }
-    ensures counted { IfErr result (λ e. S.failures sink.new ≡ S.failures sink.old + sink_faults e) }
+    ensures err { OnErr result
+        (TakesPrefix (run_text T.opening (T.lines text) T.closing blocks.config blocks.program)
+        (S.taken sink.old) (S.taken sink.new)) }
+    ensures counted { IfErr result (λ e.
+        S.failures sink.new ≡ S.failures sink.old + sink_faults e) }
 {
     write_by_workers::<Brand, R, G, T, S>(rt, alloc, blocks, workers, gate, text, sink).1
 }
@@ -72,10 +76,14 @@ fn write_by_workers<
     requires takes { (count : ℕ) → T.takes count }
     requires ready { T.is_ready text blocks.config blocks.program 0 }
     ensures same_reference { result.0.ghost_name ≡ sink.entry.ghost_name }
-    ensures ok { OnOk result.1 (S.taken result.0.now ≡ S.taken sink.entry.now ++ run_text T.opening (T.lines text) T.closing blocks.config blocks.program) }
+    ensures ok { OnOk result.1 (S.taken result.0.now ≡ S.taken sink.entry.now ++
+        run_text T.opening (T.lines text) T.closing blocks.config blocks.program) }
     ensures still { OnOk result.1 (S.failures result.0.now ≡ S.failures sink.entry.now) }
-    ensures err { OnErr result.1 (TakesPrefix (run_text T.opening (T.lines text) T.closing blocks.config blocks.program) (S.taken sink.entry.now) (S.taken result.0.now)) }
-    ensures counted { IfErr result.1 (λ e. S.failures result.0.now ≡ S.failures sink.entry.now + sink_faults e) }
+    ensures err { OnErr result.1
+        (TakesPrefix (run_text T.opening (T.lines text) T.closing blocks.config blocks.program)
+        (S.taken sink.entry.now) (S.taken result.0.now)) }
+    ensures counted { IfErr result.1 (λ e.
+        S.failures result.0.now ≡ S.failures sink.entry.now + sink_faults e) }
 {
     thread::scope(
         thread::scope_env(),
@@ -87,10 +95,13 @@ fn write_by_workers<
             requires takes { (count : ℕ) → T.takes count }
             requires ready { T.is_ready text blocks.config blocks.program 0 }
             ensures same_reference { result.0.ghost_name ≡ sink.entry.ghost_name }
-            ensures ok { OnOk result.1 (S.taken result.0.now ≡ S.taken sink.entry.now ++ run_text T.opening (T.lines text) T.closing blocks.config blocks.program) }
+            ensures ok { OnOk result.1 (S.taken result.0.now ≡ S.taken sink.entry.now ++
+                run_text T.opening (T.lines text) T.closing blocks.config blocks.program) }
             ensures still { OnOk result.1 (S.failures result.0.now ≡ S.failures sink.entry.now) }
-            ensures err { OnErr result.1 (TakesPrefix (run_text T.opening (T.lines text) T.closing blocks.config blocks.program) (S.taken sink.entry.now) (S.taken result.0.now)) }
-            ensures counted { IfErr result.1 (λ e. S.failures result.0.now ≡ S.failures sink.entry.now + sink_faults e) }
+            ensures err { OnErr result.1 (TakesPrefix (run_text T.opening (T.lines text) T.closing
+                blocks.config blocks.program) (S.taken sink.entry.now) (S.taken result.0.now)) }
+            ensures counted { IfErr result.1 (λ e.
+                S.failures result.0.now ≡ S.failures sink.entry.now + sink_faults e) }
         {
             let started = WorkerPool::<J>::start(scope, rt, alloc, workers, gate);
             let result = write_by_started(rt, alloc, blocks, started, text, sink);
@@ -115,10 +126,14 @@ fn write_by_started<J: ExpectedResults, R: Threads + Wait, T: RunText, S: Sink>(
     requires start { IsAfter blocks.config blocks.program 0 blocks }
     requires takes { (count : ℕ) → T.takes count }
     requires ready { T.is_ready text blocks.config blocks.program 0 }
-    ensures ok { OnOk result (S.taken sink.new ≡ S.taken sink.old ++ run_text T.opening (T.lines text) T.closing blocks.config blocks.program) }
+    ensures ok { OnOk result (S.taken sink.new ≡ S.taken sink.old ++
+        run_text T.opening (T.lines text) T.closing blocks.config blocks.program) }
     ensures still { OnOk result (S.failures sink.new ≡ S.failures sink.old) }
-    ensures err { OnErr result (TakesPrefix (run_text T.opening (T.lines text) T.closing blocks.config blocks.program) (S.taken sink.old) (S.taken sink.new)) }
-    ensures counted { IfErr result (λ e. S.failures sink.new ≡ S.failures sink.old + sink_faults e) }
+    ensures err { OnErr result
+        (TakesPrefix (run_text T.opening (T.lines text) T.closing blocks.config blocks.program)
+        (S.taken sink.old) (S.taken sink.new)) }
+    ensures counted { IfErr result (λ e.
+        S.failures sink.new ≡ S.failures sink.old + sink_faults e) }
     ensures refused { IfErr started (λ e. result ≡ Err (fault_of_crew e)) }
 {
     match started {
@@ -127,7 +142,7 @@ fn write_by_started<J: ExpectedResults, R: Threads + Wait, T: RunText, S: Sink>(
             pool.stop(rt);
             result
         }
-        Err(refused) => Err(run_fault(refused)),
+        Err(refused) => Err(fault_of_crew(refused)),
     }
 }
 
@@ -146,15 +161,19 @@ fn write_by_pool<J: ExpectedResults, R: Wait, T: RunText, S: Sink>(
     requires start { IsAfter blocks.config blocks.program 0 blocks }
     requires takes { (count : ℕ) → T.takes count }
     requires ready { T.is_ready text blocks.config blocks.program 0 }
-    ensures ok { OnOk result (S.taken sink.new ≡ S.taken sink.old ++ run_text T.opening (T.lines text) T.closing blocks.config blocks.program) }
+    ensures ok { OnOk result (S.taken sink.new ≡ S.taken sink.old ++
+        run_text T.opening (T.lines text) T.closing blocks.config blocks.program) }
     ensures still { OnOk result (S.failures sink.new ≡ S.failures sink.old) }
-    ensures err { OnErr result (TakesPrefix (run_text T.opening (T.lines text) T.closing blocks.config blocks.program) (S.taken sink.old) (S.taken sink.new)) }
-    ensures counted { IfErr result (λ e. S.failures sink.new ≡ S.failures sink.old + sink_faults e) }
+    ensures err { OnErr result
+        (TakesPrefix (run_text T.opening (T.lines text) T.closing blocks.config blocks.program)
+        (S.taken sink.old) (S.taken sink.new)) }
+    ensures counted { IfErr result (λ e.
+        S.failures sink.new ≡ S.failures sink.old + sink_faults e) }
 {
     let mut buffer = TextBuffer::new(sink);
     match put_text_together(&mut buffer, rt, alloc, blocks, pool, text) {
         Ok(()) => Ok(buffer.finish()?),
-        Err(fault) => Err(run_fault(fault)),
+        Err(fault) => Err(fault_of_crew(fault)),
     }
 }
 
@@ -174,8 +193,12 @@ fn put_text_together<J: ExpectedResults, R: Wait, T: RunText, S: Sink>(
     requires takes { (count : ℕ) → T.takes count }
     requires ready { T.is_ready text blocks.config blocks.program 0 }
     requires sound { has_failed buffer.old ≡ false }
-    ensures ok { OnOk result (Writes S.taken S.failures (run_text T.opening (T.lines text) T.closing blocks.config blocks.program) buffer.old buffer.new) }
-    ensures err { OnErr result (WritesPrefix S.taken S.failures (run_text T.opening (T.lines text) T.closing blocks.config blocks.program) buffer.old buffer.new) }
+    ensures ok { OnOk result (Writes S.taken S.failures
+        (run_text T.opening (T.lines text) T.closing blocks.config blocks.program)
+        buffer.old buffer.new) }
+    ensures err { OnErr result (WritesPrefix S.taken S.failures
+        (run_text T.opening (T.lines text) T.closing blocks.config blocks.program)
+        buffer.old buffer.new) }
     ensures sound { OnErr result (has_failed buffer.new ≡ false) }
 {
     text.put_opening(buffer);
@@ -206,10 +229,16 @@ fn put_cycles_together<J: ExpectedResults, R: Wait, T: RunText, S: Sink>(
     requires takes { (count : ℕ) → T.takes count }
     requires ready { T.is_ready text.old blocks.config blocks.program 0 }
     requires sound { has_failed buffer.old ≡ false }
-    ensures writes { OnOk result (Writes S.taken S.failures (by_number (cycle_count blocks.config blocks.program) (T.lines text.old blocks.config blocks.program)) buffer.old buffer.new) }
-    ensures end { IfOk result (λ b. has_failed buffer.new ≡ false → IsAfter blocks.config blocks.program (cycle_count blocks.config blocks.program) b) }
-    ensures ready { OnOk result (has_failed buffer.new ≡ false → T.is_ready text.new blocks.config blocks.program (cycle_count blocks.config blocks.program)) }
-    ensures err { OnErr result (WritesPrefix S.taken S.failures (by_number (cycle_count blocks.config blocks.program) (T.lines text.old blocks.config blocks.program)) buffer.old buffer.new) }
+    ensures writes { OnOk result
+        (Writes S.taken S.failures (by_number (cycle_count blocks.config blocks.program)
+        (T.lines text.old blocks.config blocks.program)) buffer.old buffer.new) }
+    ensures end { IfOk result (λ b. has_failed buffer.new ≡ false →
+        IsAfter blocks.config blocks.program (cycle_count blocks.config blocks.program) b) }
+    ensures ready { OnOk result (has_failed buffer.new ≡ false → T.is_ready text.new blocks.config
+        blocks.program (cycle_count blocks.config blocks.program)) }
+    ensures err { OnErr result
+        (WritesPrefix S.taken S.failures (by_number (cycle_count blocks.config blocks.program)
+        (T.lines text.old blocks.config blocks.program)) buffer.old buffer.new) }
     ensures sound { OnErr result (has_failed buffer.new ≡ false) }
 {
     for cycle in 0..most_cycles(&blocks) {
@@ -223,7 +252,7 @@ fn put_cycles_together<J: ExpectedResults, R: Wait, T: RunText, S: Sink>(
 }
 
 /// The fault of the run that a fault of the workers ends.
-fn run_fault(fault: CrewFault) -> RunFault
+fn fault_of_crew(fault: CrewFault) -> RunFault
     ensures { result ≡ fault_of_crew fault }
 {
     match fault {

@@ -24,9 +24,11 @@ pub(crate) fn write_text<T: RunText, S: Sink>(
     requires takes { T.takes blocks.old.count }
     requires start { IsAfter blocks.old.config blocks.old.program 0 blocks.old }
     requires ready { T.is_ready text.old blocks.old.config blocks.old.program 0 }
-    ensures ok { OnOk result (S.taken sink.new ≡ S.taken sink.old ++ run_text T.opening (T.lines text.old) T.closing blocks.old.config blocks.old.program) }
+    ensures ok { OnOk result (S.taken sink.new ≡ S.taken sink.old ++
+        run_text T.opening (T.lines text.old) T.closing blocks.old.config blocks.old.program) }
     ensures still { OnOk result (S.failures sink.new ≡ S.failures sink.old) }
-    ensures err { OnErr result (TakesPrefix (run_text T.opening (T.lines text.old) T.closing blocks.old.config blocks.old.program) (S.taken sink.old) (S.taken sink.new)) }
+    ensures err { OnErr result (TakesPrefix (run_text T.opening (T.lines text.old) T.closing
+        blocks.old.config blocks.old.program) (S.taken sink.old) (S.taken sink.new)) }
     ensures counted { OnErr result (S.failures sink.new ≡ S.failures sink.old + 1) }
 {
     let mut buffer = TextBuffer::new(sink);
@@ -39,7 +41,9 @@ fn put_text<T: RunText, S: Sink>(buffer: &mut TextBuffer<'_, S>, blocks: &mut Bl
     requires takes { T.takes blocks.old.count }
     requires start { IsAfter blocks.old.config blocks.old.program 0 blocks.old }
     requires ready { T.is_ready text.old blocks.old.config blocks.old.program 0 }
-    ensures { Writes S.taken S.failures (run_text T.opening (T.lines text.old) T.closing blocks.old.config blocks.old.program) buffer.old buffer.new }
+    ensures { Writes S.taken S.failures
+        (run_text T.opening (T.lines text.old) T.closing blocks.old.config blocks.old.program)
+        buffer.old buffer.new }
 {
     text.put_opening(buffer);
     put_cycles(buffer, blocks, text);
@@ -59,10 +63,14 @@ fn put_cycles<T: RunText, S: Sink>(
     requires takes { T.takes blocks.old.count }
     requires start { IsAfter blocks.old.config blocks.old.program 0 blocks.old }
     requires ready { T.is_ready text.old blocks.old.config blocks.old.program 0 }
-    ensures writes { Writes S.taken S.failures (by_number (cycle_count blocks.old.config blocks.old.program) (T.lines text.old blocks.old.config blocks.old.program)) buffer.old buffer.new }
+    ensures writes { Writes S.taken S.failures
+        (by_number (cycle_count blocks.old.config blocks.old.program)
+        (T.lines text.old blocks.old.config blocks.old.program)) buffer.old buffer.new }
     ensures takes { T.takes blocks.new.count }
-    ensures end { has_failed buffer.new ≡ false → IsAfter blocks.old.config blocks.old.program (cycle_count blocks.old.config blocks.old.program) blocks.new }
-    ensures ready { has_failed buffer.new ≡ false → T.is_ready text.new blocks.old.config blocks.old.program (cycle_count blocks.old.config blocks.old.program) }
+    ensures end { has_failed buffer.new ≡ false → IsAfter blocks.old.config blocks.old.program
+        (cycle_count blocks.old.config blocks.old.program) blocks.new }
+    ensures ready { has_failed buffer.new ≡ false → T.is_ready text.new blocks.old.config
+        blocks.old.program (cycle_count blocks.old.config blocks.old.program) }
 {
     for cycle in 0..most_cycles(blocks) {
         blocks.cycle();

@@ -102,7 +102,8 @@ fn put_first_line<S: Sink>(buffer: &mut TextBuffer<'_, S>)
 /// Writes the lines of the last cycle that were chosen.
 fn put_chosen<S: Sink>(buffer: &mut TextBuffer<'_, S>, blocks: &Blocks, lines: CycleLines)
     requires { 0 < blocks.now.machine.cycles }
-    ensures { Writes S.taken S.failures (chosen_lines lines blocks.now.config blocks.now.machine) buffer.old buffer.new }
+    ensures { Writes S.taken S.failures
+        (chosen_lines lines blocks.now.config blocks.now.machine) buffer.old buffer.new }
 {
     match lines {
         CycleLines::All => put_cycle(buffer, blocks),

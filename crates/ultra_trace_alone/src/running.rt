@@ -34,11 +34,15 @@ pub fn run_alone<S: Sink>(
     program: &Program,
     sink: &mut S,
 ) -> Result<(), RunFault>
-    ensures headline { OnOk result ((written : List ℕ) × (S.taken sink.new ≡ S.taken sink.old ++ written) × Headline config.now program.now written) }
+    ensures headline { OnOk result ((written : List ℕ) ×
+        (S.taken sink.new ≡ S.taken sink.old ++ written) ×
+        Headline config.now program.now written) }
     ensures ok { OnOk result (S.taken sink.new ≡ S.taken sink.old ++ trace config.now program.now) }
     ensures still { OnOk result (S.failures sink.new ≡ S.failures sink.old) }
-    ensures err { OnErr result (TakesPrefix (trace config.now program.now) (S.taken sink.old) (S.taken sink.new)) }
-    ensures counted { IfErr result (λ e. S.failures sink.new ≡ S.failures sink.old + sink_faults e) }
+    ensures err { OnErr result
+        (TakesPrefix (trace config.now program.now) (S.taken sink.old) (S.taken sink.new)) }
+    ensures counted { IfErr result (λ e.
+        S.failures sink.new ≡ S.failures sink.old + sink_faults e) }
     ensures alone { IfErr result (λ e. e ≢ NoThread) }
     ensures memory_first { IfErr result (λ e. e ≡ NoMemory → S.taken sink.new ≡ S.taken sink.old) }
 {
@@ -59,10 +63,13 @@ pub fn run_part_alone<S: Sink>(
     part: TracePart,
     sink: &mut S,
 ) -> Result<(), RunFault>
-    ensures ok { OnOk result (S.taken sink.new ≡ S.taken sink.old ++ part_of part config.now program.now) }
+    ensures ok { OnOk result
+        (S.taken sink.new ≡ S.taken sink.old ++ part_of part config.now program.now) }
     ensures still { OnOk result (S.failures sink.new ≡ S.failures sink.old) }
-    ensures err { OnErr result (TakesPrefix (part_of part config.now program.now) (S.taken sink.old) (S.taken sink.new)) }
-    ensures counted { IfErr result (λ e. S.failures sink.new ≡ S.failures sink.old + sink_faults e) }
+    ensures err { OnErr result
+        (TakesPrefix (part_of part config.now program.now) (S.taken sink.old) (S.taken sink.new)) }
+    ensures counted { IfErr result (λ e.
+        S.failures sink.new ≡ S.failures sink.old + sink_faults e) }
     ensures alone { IfErr result (λ e. e ≢ NoThread) }
     ensures memory_first { IfErr result (λ e. e ≡ NoMemory → S.taken sink.new ≡ S.taken sink.old) }
 {
@@ -82,10 +89,14 @@ pub fn write_run<T: RunText, S: Sink>(
 ) -> Result<(), RunFault>
     requires takes { T.takes 1 }
     requires ready { T.is_ready text config.now program.now 0 }
-    ensures ok { OnOk result (S.taken sink.new ≡ S.taken sink.old ++ run_text T.opening (T.lines text) T.closing config.now program.now) }
+    ensures ok { OnOk result (S.taken sink.new ≡
+        S.taken sink.old ++ run_text T.opening (T.lines text) T.closing config.now program.now) }
     ensures still { OnOk result (S.failures sink.new ≡ S.failures sink.old) }
-    ensures err { OnErr result (TakesPrefix (run_text T.opening (T.lines text) T.closing config.now program.now) (S.taken sink.old) (S.taken sink.new)) }
-    ensures counted { IfErr result (λ e. S.failures sink.new ≡ S.failures sink.old + sink_faults e) }
+    ensures err { OnErr result
+        (TakesPrefix (run_text T.opening (T.lines text) T.closing config.now program.now)
+        (S.taken sink.old) (S.taken sink.new)) }
+    ensures counted { IfErr result (λ e.
+        S.failures sink.new ≡ S.failures sink.old + sink_faults e) }
     ensures alone { IfErr result (λ e. e ≢ NoThread) }
     ensures memory_first { IfErr result (λ e. e ≡ NoMemory → S.taken sink.new ≡ S.taken sink.old) }
 {

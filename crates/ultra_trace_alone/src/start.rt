@@ -7,7 +7,7 @@ ghost use Rattle.ultra_trace_alone.specs.BlocksAfter.{IsAfter};
 ghost use Rattle.ultra_trace_alone.specs.Dealt.{IsDealtOut};
 
 use std::alloc::{AllocError, Global};
-use ultra_block::{Blocks, PartitionFault, count_units};
+use ultra_block::{Blocks, PartitionFault, unit_count};
 use ultra_isa::Program;
 use ultra_model::Config;
 
@@ -27,7 +27,7 @@ pub fn new_blocks(
 {
     // for the prover: the settings are in their ranges
     let _valid = config.initial();
-    let partition = dealt_out(alloc, config, workers)?;
+    let partition = deal_units(alloc, config, workers)?;
     match Blocks::new(alloc, config, program, partition.as_slice()) {
         Ok(blocks) => Ok(blocks),
         Err(PartitionFault::NoMemory) => Err(AllocError),
@@ -37,14 +37,14 @@ pub fn new_blocks(
 
 /// The partition that deals the units out to n workers in turn. An error says that memory was
 /// refused.
-fn dealt_out(alloc: Global, config: &Config, workers: u8) -> Result<Vec<u8>, AllocError>
+fn deal_units(alloc: Global, config: &Config, workers: u8) -> Result<Vec<u8>, AllocError>
     requires some { 1 ≤ workers }
     requires most { workers ≤ 64 }
     ensures partition { IfOk result (λ v. is_partition config.now v.items ≡ true) }
     ensures dealt { IfOk result (λ v. IsDealtOut workers v.items) }
 {
     let mut partition = Vec::new(alloc);
-    for unit in 0..count_units(config) {
+    for unit in 0..unit_count(config) {
         partition.push((unit % usize::from(workers)) as u8)?;
     }
     Ok(partition)

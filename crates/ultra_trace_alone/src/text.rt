@@ -41,14 +41,19 @@ pub trait RunText: Drop {
         requires few { cycle < MOST_CYCLES }
         requires made { IsAfter blocks.now.config blocks.now.program (cycle + 1) blocks.now }
         requires ready { is_ready self.old blocks.now.config blocks.now.program cycle }
-        ensures writes { Writes S.taken S.failures (lines self.old blocks.now.config blocks.now.program cycle) buffer.old buffer.new }
+        ensures writes { Writes S.taken S.failures
+            (lines self.old blocks.now.config blocks.now.program cycle) buffer.old buffer.new }
         ensures ready { is_ready self.new blocks.now.config blocks.now.program (cycle + 1) }
-        ensures same { (k : ℕ) → lines self.new blocks.now.config blocks.now.program k ≡ lines self.old blocks.now.config blocks.now.program k };
+        ensures same { (k : ℕ) → lines self.new blocks.now.config blocks.now.program k ≡
+            lines self.old blocks.now.config blocks.now.program k };
 
     /// Writes the closing, after the last cycle.
     fn put_closing<S: Sink>(&self, buffer: &mut TextBuffer<'_, S>, blocks: &Blocks)
         requires takes { takes blocks.now.count }
-        requires end { IsAfter blocks.now.config blocks.now.program (cycle_count blocks.now.config blocks.now.program) blocks.now }
-        requires ready { is_ready self.now blocks.now.config blocks.now.program (cycle_count blocks.now.config blocks.now.program) }
-        ensures { Writes S.taken S.failures (closing blocks.now.config blocks.now.program) buffer.old buffer.new };
+        requires end { IsAfter blocks.now.config blocks.now.program
+            (cycle_count blocks.now.config blocks.now.program) blocks.now }
+        requires ready { is_ready self.now blocks.now.config blocks.now.program
+            (cycle_count blocks.now.config blocks.now.program) }
+        ensures { Writes S.taken S.failures
+            (closing blocks.now.config blocks.now.program) buffer.old buffer.new };
 }

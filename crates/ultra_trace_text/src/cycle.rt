@@ -20,9 +20,11 @@ use ultra_msg::{Sink, SinkFault};
 /// large pieces.
 pub fn write_cycle<S: Sink>(blocks: &Blocks, sink: &mut S) -> Result<(), SinkFault>
     requires { 0 < blocks.now.machine.cycles }
-    ensures ok { OnOk result (S.taken sink.new ≡ S.taken sink.old ++ cycle_text blocks.now.config blocks.now.machine) }
+    ensures ok { OnOk result
+        (S.taken sink.new ≡ S.taken sink.old ++ cycle_text blocks.now.config blocks.now.machine) }
     ensures still { OnOk result (S.failures sink.new ≡ S.failures sink.old) }
-    ensures err { OnErr result (TakesPrefix (cycle_text blocks.now.config blocks.now.machine) (S.taken sink.old) (S.taken sink.new)) }
+    ensures err { OnErr result (TakesPrefix (cycle_text blocks.now.config blocks.now.machine)
+        (S.taken sink.old) (S.taken sink.new)) }
     ensures counted { OnErr result (S.failures sink.new ≡ S.failures sink.old + 1) }
 {
     let mut buffer = TextBuffer::new(sink);
@@ -34,7 +36,8 @@ pub fn write_cycle<S: Sink>(blocks: &Blocks, sink: &mut S) -> Result<(), SinkFau
 /// hold afterwards.
 pub fn put_cycle<S: Sink>(buffer: &mut TextBuffer<'_, S>, blocks: &Blocks)
     requires { 0 < blocks.now.machine.cycles }
-    ensures { Writes S.taken S.failures (cycle_text blocks.now.config blocks.now.machine) buffer.old buffer.new }
+    ensures { Writes S.taken S.failures
+        (cycle_text blocks.now.config blocks.now.machine) buffer.old buffer.new }
 {
     put_cycle_events(buffer, blocks);
     put_state(buffer, blocks);
@@ -44,7 +47,8 @@ pub fn put_cycle<S: Sink>(buffer: &mut TextBuffer<'_, S>, blocks: &Blocks)
 #[inline(always)]
 pub fn put_cycle_events<S: Sink>(buffer: &mut TextBuffer<'_, S>, blocks: &Blocks)
     requires { 0 < blocks.now.machine.cycles }
-    ensures { Writes S.taken S.failures (cycle_line blocks.now.machine ++ events_text blocks.now.machine.events blocks.now.machine.stops) buffer.old buffer.new }
+    ensures { Writes S.taken S.failures (cycle_line blocks.now.machine ++
+        events_text blocks.now.machine.events blocks.now.machine.stops) buffer.old buffer.new }
 {
     put_number(buffer, blocks.done() - 1);
     put_events(buffer, blocks);
@@ -52,7 +56,8 @@ pub fn put_cycle_events<S: Sink>(buffer: &mut TextBuffer<'_, S>, blocks: &Blocks
 
 /// Writes the first line of a cycle, as `cycle 0`.
 fn put_number<S: Sink>(buffer: &mut TextBuffer<'_, S>, number: u32)
-    ensures { Writes S.taken S.failures (codes "cycle " ++ decimal number ++ newline) buffer.old buffer.new }
+    ensures { Writes S.taken S.failures
+        (codes "cycle " ++ decimal number ++ newline) buffer.old buffer.new }
 {
     let at = buffer.begin();
     let at = write_with_word(buffer, at, b"cycle ", number);

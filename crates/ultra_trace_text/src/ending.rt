@@ -15,7 +15,8 @@ use ultra_msg::{Cell, Pe, Register, Sink, Word};
 /// Writes the lines at the end: how the run ended, the cells that aren't 0, and the processing
 /// elements.
 pub fn put_end<S: Sink>(buffer: &mut TextBuffer<'_, S>, blocks: &Blocks)
-    ensures { Writes S.taken S.failures (end_text blocks.now.config blocks.now.machine) buffer.old buffer.new }
+    ensures { Writes S.taken S.failures
+        (end_text blocks.now.config blocks.now.machine) buffer.old buffer.new }
 {
     put_ending(buffer, blocks.is_quiet());
     buffer.put(b"\n");
@@ -25,7 +26,9 @@ pub fn put_end<S: Sink>(buffer: &mut TextBuffer<'_, S>, blocks: &Blocks)
 
 /// Writes the lines of the cells that aren't 0.
 fn put_cells<S: Sink>(buffer: &mut TextBuffer<'_, S>, blocks: &Blocks)
-    ensures { Writes S.taken S.failures (by_number (size blocks.now.config * blocks.now.config.cells) (cell_lines blocks.now.config blocks.now.machine)) buffer.old buffer.new }
+    ensures { Writes S.taken S.failures (by_number (size blocks.now.config *
+        blocks.now.config.cells) (cell_lines blocks.now.config blocks.now.machine))
+        buffer.old buffer.new }
 {
     for address in 0..cells(blocks) {
         put_cell(buffer, address, value_of_cell(blocks, address));
@@ -34,7 +37,8 @@ fn put_cells<S: Sink>(buffer: &mut TextBuffer<'_, S>, blocks: &Blocks)
 
 /// Writes the lines of the processing elements.
 fn put_processors<S: Sink>(buffer: &mut TextBuffer<'_, S>, blocks: &Blocks)
-    ensures { Writes S.taken S.failures (by_number (size blocks.now.config) (pe_lines blocks.now.machine)) buffer.old buffer.new }
+    ensures { Writes S.taken S.failures
+        (by_number (size blocks.now.config) (pe_lines blocks.now.machine)) buffer.old buffer.new }
 {
     for pe in 0..positions(blocks) {
         put_pe(buffer, pe, &blocks.element(pe).processor);
@@ -81,7 +85,8 @@ pub fn put_pe<S: Sink>(buffer: &mut TextBuffer<'_, S>, pe: Pe, processor: &Proce
 
 /// Writes all registers that aren't 0, by number.
 fn put_registers<S: Sink>(buffer: &mut TextBuffer<'_, S>, processor: &Processor)
-    ensures { Writes S.taken S.failures (registers_text processor.now.core.registers) buffer.old buffer.new }
+    ensures { Writes S.taken S.failures
+        (registers_text processor.now.core.registers) buffer.old buffer.new }
 {
     for index in 0..16 {
         if let Some(register) = Register::new(index) {

@@ -44,7 +44,8 @@ pub(crate) fn put_entries<S: Sink, E: Entries>(
 )
     requires some { 0 < length (E.entries entries.now) }
     requires room { at + 100 ≤ BUFFER_BYTES }
-    ensures { Ends S.taken S.failures (comma_separated E.text (E.entries entries.now) ++ newline) buffer.old at buffer.new }
+    ensures { Ends S.taken S.failures
+        (comma_separated E.text (E.entries entries.now) ++ newline) buffer.old at buffer.new }
 {
     let mut at = E::write(buffer, at, entries.entry(0));
     for index in 1..entries.count() {
@@ -127,7 +128,8 @@ impl Entries for Records<'_> {
     #[inline(always)]
     fn write<S: Sink>(buffer: &mut TextBuffer<'_, S>, at: usize, entry: WaitRecord) -> usize
         requires { at + 66 ≤ BUFFER_BYTES }
-        ensures goes_on { GoesOn S.taken S.failures (record_text entry) buffer.old at buffer.new result }
+        ensures goes_on { GoesOn S.taken S.failures
+            (record_text entry) buffer.old at buffer.new result }
         ensures few { result ≤ at + 66 }
     {
         write_record(buffer, at, entry)

@@ -16,7 +16,8 @@ use ultra_msg::{Event, Sink};
 /// served, then who faulted.
 #[inline(always)]
 pub(crate) fn put_events<S: Sink>(buffer: &mut TextBuffer<'_, S>, blocks: &Blocks)
-    ensures { Writes S.taken S.failures (events_text blocks.now.machine.events blocks.now.machine.stops) buffer.old buffer.new }
+    ensures { Writes S.taken S.failures
+        (events_text blocks.now.machine.events blocks.now.machine.stops) buffer.old buffer.new }
 {
     if blocks.is_in_one_block() {
         put_events_of_one(buffer, blocks);
@@ -29,7 +30,8 @@ pub(crate) fn put_events<S: Sink>(buffer: &mut TextBuffer<'_, S>, blocks: &Block
 #[inline(always)]
 fn put_events_of_one<S: Sink>(buffer: &mut TextBuffer<'_, S>, blocks: &Blocks)
     requires { blocks.now.count ≡ 1 }
-    ensures { Writes S.taken S.failures (events_text blocks.now.machine.events blocks.now.machine.stops) buffer.old buffer.new }
+    ensures { Writes S.taken S.failures
+        (events_text blocks.now.machine.events blocks.now.machine.stops) buffer.old buffer.new }
 {
     for event in blocks.events_of_one() {
         put_got(buffer, event);
@@ -46,7 +48,8 @@ fn put_events_of_one<S: Sink>(buffer: &mut TextBuffer<'_, S>, blocks: &Blocks)
 #[cold]
 #[inline(never)]
 fn put_events_of_several<S: Sink>(buffer: &mut TextBuffer<'_, S>, blocks: &Blocks)
-    ensures { Writes S.taken S.failures (events_text blocks.now.machine.events blocks.now.machine.stops) buffer.old buffer.new }
+    ensures { Writes S.taken S.failures
+        (events_text blocks.now.machine.events blocks.now.machine.stops) buffer.old buffer.new }
 {
     for event in blocks.events() {
         put_got(buffer, &event);

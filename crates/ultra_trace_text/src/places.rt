@@ -15,7 +15,8 @@ use ultra_switch::{ToMm, ToPe};
 /// Writes the line of a processing element's requests that are not yet in the network, as `pni 0:
 /// 0@5 faa 1`.
 pub(crate) fn put_pni<S: Sink>(buffer: &mut TextBuffer<'_, S>, pe: u32, interface: &Pni)
-    ensures { Writes S.taken S.failures (pni_line pe interface.now.interface.pending) buffer.old buffer.new }
+    ensures { Writes S.taken S.failures
+        (pni_line pe interface.now.interface.pending) buffer.old buffer.new }
 {
     if interface.pending_count() > 0 {
         let at = begin_unit(buffer, b"pni ", pe);
@@ -31,7 +32,8 @@ pub(crate) fn put_req<S: Sink>(
     position: u32,
     queue: &ToMm,
 )
-    ensures { Writes S.taken S.failures (req_line stage position queue.now.lane.queue) buffer.old buffer.new }
+    ensures { Writes S.taken S.failures
+        (req_line stage position queue.now.lane.queue) buffer.old buffer.new }
 {
     if !queue.is_empty() {
         let at = begin_place(buffer, b"req ", stage, position);
@@ -47,7 +49,8 @@ pub(crate) fn put_wait<S: Sink>(
     position: u32,
     queue: &ToMm,
 )
-    ensures { Writes S.taken S.failures (wait_line stage position queue.now.lane.records) buffer.old buffer.new }
+    ensures { Writes S.taken S.failures
+        (wait_line stage position queue.now.lane.records) buffer.old buffer.new }
 {
     if queue.record_count() > 0 {
         let at = begin_place(buffer, b"wait ", stage, position);
@@ -57,7 +60,8 @@ pub(crate) fn put_wait<S: Sink>(
 
 /// Writes the line of the request that waits for a module, as `inp 0: 1@0 faa 2`.
 pub(crate) fn put_inp<S: Sink>(buffer: &mut TextBuffer<'_, S>, module: u32, memory_module: &Module)
-    ensures { Writes S.taken S.failures (inp_line «module» memory_module.now.inp) buffer.old buffer.new }
+    ensures { Writes S.taken S.failures
+        (inp_line «module» memory_module.now.inp) buffer.old buffer.new }
 {
     if let Some(request) = memory_module.request() {
         let at = begin_unit(buffer, b"inp ", module);
@@ -68,7 +72,8 @@ pub(crate) fn put_inp<S: Sink>(buffer: &mut TextBuffer<'_, S>, module: u32, memo
 
 /// Writes the line of the reply that waits to leave a module, as `out 0: 1@0 = 0`.
 pub(crate) fn put_out<S: Sink>(buffer: &mut TextBuffer<'_, S>, module: u32, memory_module: &Module)
-    ensures { Writes S.taken S.failures (out_line «module» memory_module.now.out) buffer.old buffer.new }
+    ensures { Writes S.taken S.failures
+        (out_line «module» memory_module.now.out) buffer.old buffer.new }
 {
     if let Some(message) = memory_module.reply() {
         let at = begin_unit(buffer, b"out ", module);
@@ -85,7 +90,8 @@ pub(crate) fn put_rep<S: Sink>(
     position: u32,
     queue: &ToPe,
 )
-    ensures { Writes S.taken S.failures (rep_line stage position queue.now.replies) buffer.old buffer.new }
+    ensures { Writes S.taken S.failures
+        (rep_line stage position queue.now.replies) buffer.old buffer.new }
 {
     if !queue.is_empty() {
         let at = begin_place(buffer, b"rep ", stage, position);

@@ -20,7 +20,8 @@ use ultra_topology::{UnitSet, is_small};
 /// Writes what the units hold after the last cycle.
 #[inline(always)]
 pub(crate) fn put_state<S: Sink>(buffer: &mut TextBuffer<'_, S>, blocks: &Blocks)
-    ensures { Writes S.taken S.failures (state_text blocks.now.config blocks.now.machine) buffer.old buffer.new }
+    ensures { Writes S.taken S.failures
+        (state_text blocks.now.config blocks.now.machine) buffer.old buffer.new }
 {
     if !blocks.is_in_one_block() {
         put_state_of_several(buffer, blocks);
@@ -37,7 +38,8 @@ pub(crate) fn put_state<S: Sink>(buffer: &mut TextBuffer<'_, S>, blocks: &Blocks
 fn put_state_of_one<const SMALL: bool, S: Sink>(buffer: &mut TextBuffer<'_, S>, blocks: &Blocks)
     requires one { blocks.now.count ≡ 1 }
     requires small { SMALL ≡ true → IsSmall blocks.now.config.stages }
-    ensures { Writes S.taken S.failures (state_text blocks.now.config blocks.now.machine) buffer.old buffer.new }
+    ensures { Writes S.taken S.failures
+        (state_text blocks.now.config blocks.now.machine) buffer.old buffer.new }
 {
     let requests = blocks.holding_of_one(Held::Request);
     let records = blocks.holding_of_one(Held::Record);
@@ -49,7 +51,8 @@ fn put_state_of_one<const SMALL: bool, S: Sink>(buffer: &mut TextBuffer<'_, S>, 
 #[cold]
 #[inline(never)]
 fn put_state_of_several<S: Sink>(buffer: &mut TextBuffer<'_, S>, blocks: &Blocks)
-    ensures { Writes S.taken S.failures (state_text blocks.now.config blocks.now.machine) buffer.old buffer.new }
+    ensures { Writes S.taken S.failures
+        (state_text blocks.now.config blocks.now.machine) buffer.old buffer.new }
 {
     let requests = blocks.holding(Held::Request);
     let records = blocks.holding(Held::Record);
@@ -70,7 +73,8 @@ fn put_all_held<const SMALL: bool, S: Sink>(
     requires requests { AreHolders blocks.now Request requests.now }
     requires records { AreHolders blocks.now Record records.now }
     requires replies { AreHolders blocks.now Reply replies.now }
-    ensures { Writes S.taken S.failures (state_text blocks.now.config blocks.now.machine) buffer.old buffer.new }
+    ensures { Writes S.taken S.failures
+        (state_text blocks.now.config blocks.now.machine) buffer.old buffer.new }
 {
     let net = blocks.config().net();
     put_interfaces::<SMALL, S>(buffer, blocks, net, requests);
@@ -93,7 +97,8 @@ fn put_interfaces<const SMALL: bool, S: Sink>(
     requires net { net ≡ blocks.now.config.stages }
     requires small { SMALL ≡ true → IsSmall net }
     requires holders { AreHolders blocks.now Request holders.now }
-    ensures { Writes S.taken S.failures (by_number (size blocks.now.config) (pni_lines blocks.now.machine)) buffer.old buffer.new }
+    ensures { Writes S.taken S.failures
+        (by_number (size blocks.now.config) (pni_lines blocks.now.machine)) buffer.old buffer.new }
 {
     for pe in elements_in::<SMALL>(net, holders) {
         put_pni(buffer, pe, &blocks.element(pe).interface);
@@ -113,7 +118,8 @@ fn put_switches<const SMALL: bool, S: Sink>(
     requires net { net ≡ blocks.now.config.stages }
     requires small { SMALL ≡ true → IsSmall net }
     requires holders { AreHolders blocks.now held holders.now }
-    ensures { Writes S.taken S.failures (by_stage blocks.now.config (port_line held blocks.now.machine)) buffer.old buffer.new }
+    ensures { Writes S.taken S.failures
+        (by_stage blocks.now.config (port_line held blocks.now.machine)) buffer.old buffer.new }
 {
     // for the prover: the number of positions is even, and at most 64
     let _even = net.size();
@@ -135,7 +141,8 @@ fn put_port<S: Sink>(
 )
     requires stage { stage < blocks.now.config.stages }
     requires position { position < 2 ^ blocks.now.config.stages }
-    ensures { Writes S.taken S.failures (port_line held blocks.now.machine stage position) buffer.old buffer.new }
+    ensures { Writes S.taken S.failures
+        (port_line held blocks.now.machine stage position) buffer.old buffer.new }
 {
     match held {
         Held::Reply => put_rep(buffer, stage, position, blocks.reply_queue(stage, position)),
@@ -156,7 +163,8 @@ fn put_requests_to_serve<const SMALL: bool, S: Sink>(
     requires net { net ≡ blocks.now.config.stages }
     requires small { SMALL ≡ true → IsSmall net }
     requires holders { AreHolders blocks.now Request holders.now }
-    ensures { Writes S.taken S.failures (by_number (size blocks.now.config) (inp_lines blocks.now.machine)) buffer.old buffer.new }
+    ensures { Writes S.taken S.failures
+        (by_number (size blocks.now.config) (inp_lines blocks.now.machine)) buffer.old buffer.new }
 {
     for number in modules_in::<SMALL>(net, holders) {
         put_inp(buffer, number, blocks.memory_module(number));
@@ -175,7 +183,8 @@ fn put_replies_to_leave<const SMALL: bool, S: Sink>(
     requires net { net ≡ blocks.now.config.stages }
     requires small { SMALL ≡ true → IsSmall net }
     requires holders { AreHolders blocks.now Reply holders.now }
-    ensures { Writes S.taken S.failures (by_number (size blocks.now.config) (out_lines blocks.now.machine)) buffer.old buffer.new }
+    ensures { Writes S.taken S.failures
+        (by_number (size blocks.now.config) (out_lines blocks.now.machine)) buffer.old buffer.new }
 {
     for number in modules_in::<SMALL>(net, holders) {
         put_out(buffer, number, blocks.memory_module(number));

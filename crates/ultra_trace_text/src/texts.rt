@@ -20,7 +20,8 @@ pub(crate) fn write_with_word<S: Sink, const N: usize>(
     word: u32,
 ) -> usize
     requires { at + N + 10 ≤ BUFFER_BYTES }
-    ensures goes_on { GoesOn S.taken S.failures (bytes.now ++ decimal word) buffer.old at buffer.new result }
+    ensures goes_on { GoesOn S.taken S.failures
+        (bytes.now ++ decimal word) buffer.old at buffer.new result }
     ensures few { result ≤ at + N + 10 }
 {
     let at = buffer.write(at, bytes);
@@ -46,7 +47,8 @@ fn write_op<S: Sink>(buffer: &mut TextBuffer<'_, S>, at: usize, op: Op) -> usize
 #[inline(always)]
 fn write_identity<S: Sink>(buffer: &mut TextBuffer<'_, S>, at: usize, pe: Pe, cell: Cell) -> usize
     requires { at + 21 ≤ BUFFER_BYTES }
-    ensures goes_on { GoesOn S.taken S.failures (identity_text pe cell) buffer.old at buffer.new result }
+    ensures goes_on { GoesOn S.taken S.failures
+        (identity_text pe cell) buffer.old at buffer.new result }
     ensures few { result ≤ at + 21 }
 {
     let at = buffer.write_number(at, pe);
@@ -62,7 +64,8 @@ pub(crate) fn write_request<S: Sink>(
     request: Request,
 ) -> usize
     requires { at + 38 ≤ BUFFER_BYTES }
-    ensures goes_on { GoesOn S.taken S.failures (request_text request) buffer.old at buffer.new result }
+    ensures goes_on { GoesOn S.taken S.failures
+        (request_text request) buffer.old at buffer.new result }
     ensures few { result ≤ at + 38 }
 {
     let at = write_identity(buffer, at, request.pe, request.cell);
@@ -90,7 +93,8 @@ pub(crate) fn write_entry<S: Sink>(
 #[inline(always)]
 fn write_mark<S: Sink>(buffer: &mut TextBuffer<'_, S>, at: usize, combined: bool) -> usize
     requires { at + 2 ≤ BUFFER_BYTES }
-    ensures goes_on { GoesOn S.taken S.failures (mark_text combined) buffer.old at buffer.new result }
+    ensures goes_on { GoesOn S.taken S.failures
+        (mark_text combined) buffer.old at buffer.new result }
     ensures few { result ≤ at + 2 }
 {
     if combined {
@@ -121,7 +125,8 @@ pub(crate) fn write_message<S: Sink>(
     message: ReplyMessage,
 ) -> usize
     requires { at + 34 ≤ BUFFER_BYTES }
-    ensures goes_on { GoesOn S.taken S.failures (message_text message) buffer.old at buffer.new result }
+    ensures goes_on { GoesOn S.taken S.failures
+        (message_text message) buffer.old at buffer.new result }
     ensures few { result ≤ at + 34 }
 {
     let at = write_identity(buffer, at, message.pe, message.cell);
@@ -172,7 +177,8 @@ pub(crate) fn begin_unit<S: Sink, const N: usize>(
     unit: u32,
 ) -> usize
     requires { N ≤ 5 }
-    ensures goes_on { (name : List ℕ) → word.now ≡ name ++ codes " " → Begins S.taken S.failures (unit_name name unit ++ codes ": ") buffer.old buffer.new result }
+    ensures goes_on { (name : List ℕ) → word.now ≡ name ++ codes " " →
+        Begins S.taken S.failures (unit_name name unit ++ codes ": ") buffer.old buffer.new result }
     ensures room { result + 100 ≤ BUFFER_BYTES }
 {
     let at = buffer.begin();
@@ -191,7 +197,8 @@ pub(crate) fn begin_place<S: Sink, const N: usize>(
     position: u32,
 ) -> usize
     requires { N ≤ 5 }
-    ensures goes_on { (name : List ℕ) → word.now ≡ name ++ codes " " → Begins S.taken S.failures (stage_name name stage position ++ codes ": ") buffer.old buffer.new result }
+    ensures goes_on { (name : List ℕ) → word.now ≡ name ++ codes " " → Begins S.taken S.failures
+        (stage_name name stage position ++ codes ": ") buffer.old buffer.new result }
     ensures room { result + 100 ≤ BUFFER_BYTES }
 {
     let at = buffer.begin();

@@ -22,13 +22,13 @@ event_cell (Issued r i) = r.cell
 
 -- an explainer as its callers see it: the number of processing elements, and how many requests each
 -- can have on their way. Then whether memory was refused, and the trees, the latest first
-pub record Explained : Type 0 where
+pub record ExplainerState : Type 0 where
   pub elements : ℕ
   pub most_open : ℕ
   pub is_spent : Bool
   pub trees : List Kept
 
-abbrev pub nothing_absorbed : ℕ → ℕ → Explained
+abbrev pub nothing_absorbed : ℕ → ℕ → ExplainerState
 nothing_absorbed n m = record { elements = n; most_open = m; is_spent = false; trees = [] }
 
 -- of all events a combination alone takes memory
@@ -39,7 +39,7 @@ IsCombination (Combined s x a p q f) = Unit {0}
 IsCombination (Issued r i) = ⊥
 
 -- when each fault comes, and what it leaves
-abbrev pub ExplainsExplainFault : Explained → Event → ExplainFault → Explained → Type 0
+abbrev pub ExplainsExplainFault : ExplainerState → Event → ExplainFault → ExplainerState → Type 0
 ExplainsExplainFault old e Full new =
     (old.is_spent ≡ false) × IsCombination e × (new ≡ record old { is_spent = true; trees = [] })
 ExplainsExplainFault old e Spent new = (old.is_spent ≡ true) × (new ≡ old)

@@ -45,11 +45,11 @@ pub struct Explainer<A: Allocator> {
 impl<A: Allocator> Model for Explainer<A> {
     ghost use Rattle.std.specs.Prelude.{◌≤◌, ◌*◌};
     ghost use Rattle.std.specs.Vec.{vec_capacity};
-    ghost use Rattle.ultra_tree.specs.Absorb.{Explained, AreWithin};
+    ghost use Rattle.ultra_tree.specs.Absorb.{ExplainerState, AreWithin};
     ghost use Rattle.ultra_tree.specs.Slots.{AreSlotsOf};
     ghost use Rattle.ultra_tree.specs.Stored.{explained_code};
 
-    ghost Value = { Explained };
+    ghost Value = { ExplainerState };
 
     ghost coded = { explained_code };
 
@@ -71,7 +71,8 @@ impl<A: Allocator + Clone> Explainer<A> {
     /// An explainer of a machine with these settings, which holds no trees. `Full` means that
     /// memory of the allocator was refused.
     pub fn new(config: &Config, alloc: A) -> Result<Explainer<A>, ExplainFault>
-        ensures ok { IfOk result (λ e. e ≡ nothing_absorbed (size config.now) config.now.most_open) }
+        ensures ok { IfOk result (λ e.
+            e ≡ nothing_absorbed (size config.now) config.now.most_open) }
         ensures fault { IfErr result (λ f. f ≡ Full) }
     {
         let elements = config.net().size();
@@ -200,7 +201,7 @@ impl<A: Allocator + Clone> Explainer<A> {
     }
 
     /// Drops the trees for good.
-    fn give_up(&mut self)
+    fn drop_trees(&mut self)
         ensures { self.new ≡ record self.old { is_spent = true; trees = [] } }
     {
         let places = self.elements as usize * self.most_open as usize;
@@ -282,7 +283,7 @@ impl<A: Allocator + Clone> Explainer<A> {
                 Ok(())
             }
             Err(_) => {
-                self.give_up();
+                self.drop_trees();
                 Err(ExplainFault::Full)
             }
         }

@@ -91,7 +91,7 @@ pub(crate) fn count_of<A: Allocator>(slots: &[Slot<A>], most_open: u32, pe: Pe) 
     count
 }
 
-/// Puts free slots where there are none.
+/// Fills an empty list with `count` free slots.
 pub(crate) fn add_free<A: Allocator>(slots: &mut Vec<Slot<A>, A>, count: usize)
     requires none { slots.old.items ≡ [] }
     requires room { count ≤ vec_capacity slots.old }
@@ -99,6 +99,7 @@ pub(crate) fn add_free<A: Allocator>(slots: &mut Vec<Slot<A>, A>, count: usize)
     ensures capacity { vec_capacity slots.new ≡ vec_capacity slots.old }
 {
     for place in 0..count {
+        // only the loop's invariant uses the number
         let _ = place;
         slots.push_reserved(Slot::Free);
     }

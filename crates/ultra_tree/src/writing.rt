@@ -1,7 +1,7 @@
 //! The text of a tree.
 
 ghost use Rattle.std.specs.Prelude.{◌≡◌, ℕ, ◌+◌, ◌<◌, ◌≤◌, ◌^◌, ◌++◌, None, codes, decimal};
-ghost use Rattle.ultra_msg.specs.Bytes.{Writes};
+ghost use Rattle.ultra_msg.specs.Bytes.{WritesOrFails};
 ghost use Rattle.ultra_tree.specs.Counts.{leaf_count, HasRightCounts};
 ghost use Rattle.ultra_tree.specs.Places.{piece};
 ghost use Rattle.ultra_tree.specs.Seen.{seen};
@@ -19,7 +19,7 @@ const FEW_CLOSINGS: u64 = 32;
 
 /// Writes a tree, as `[s0x0 1.0 < 0.0]`. After a fault the sink has taken a prefix of its text.
 pub fn write_tree<A: Allocator, S: Sink>(tree: &Tree<A>, sink: &mut S) -> Result<(), SinkFault>
-    ensures { (cell : ℕ) → Writes result (tree_text (seen cell tree.now))
+    ensures { (cell : ℕ) → WritesOrFails result (tree_text (seen cell tree.now))
         (S.taken sink.old) (S.taken sink.new) (S.failures sink.old) (S.failures sink.new) }
 {
     for place in 0..tree.leaves {
@@ -38,7 +38,7 @@ fn write_at<A: Allocator, S: Sink>(
     requires right_counts { HasRightCounts tree.now }
     requires within { place < leaf_count tree.now }
     requires fits { leaf_count tree.now < 2 ^ 64 }
-    ensures { Writes result (piece tree.now place 0 None)
+    ensures { WritesOrFails result (piece tree.now place 0 None)
         (S.taken sink.old) (S.taken sink.new) (S.failures sink.old) (S.failures sink.new) }
 {
     let mut node = tree;
@@ -82,7 +82,7 @@ fn write_leaf<S: Sink>(
     mark: Option<bool>,
     sink: &mut S,
 ) -> Result<(), SinkFault>
-    ensures { Writes result (leaf_text pe number ++ closings closing ++ order_mark_text mark)
+    ensures { WritesOrFails result (leaf_text pe number ++ closings closing ++ order_mark_text mark)
         (S.taken sink.old) (S.taken sink.new) (S.failures sink.old) (S.failures sink.new) }
 {
     if closing <= FEW_CLOSINGS {
@@ -101,7 +101,7 @@ fn write_leaf_at_once<S: Sink>(
     sink: &mut S,
 ) -> Result<(), SinkFault>
     requires { closing ≤ FEW_CLOSINGS }
-    ensures { Writes result (leaf_text pe number ++ closings closing ++ order_mark_text mark)
+    ensures { WritesOrFails result (leaf_text pe number ++ closings closing ++ order_mark_text mark)
         (S.taken sink.old) (S.taken sink.new) (S.failures sink.old) (S.failures sink.new) }
 {
     let mut text = ShortText::new();
@@ -122,7 +122,7 @@ fn write_long_leaf<S: Sink>(
     mark: Option<bool>,
     sink: &mut S,
 ) -> Result<(), SinkFault>
-    ensures { Writes result (leaf_text pe number ++ closings closing ++ order_mark_text mark)
+    ensures { WritesOrFails result (leaf_text pe number ++ closings closing ++ order_mark_text mark)
         (S.taken sink.old) (S.taken sink.new) (S.failures sink.old) (S.failures sink.new) }
 {
     write_name(pe, number, sink)?;
@@ -132,7 +132,7 @@ fn write_long_leaf<S: Sink>(
 
 /// Writes the name of a request.
 fn write_name<S: Sink>(pe: Pe, number: u32, sink: &mut S) -> Result<(), SinkFault>
-    ensures { Writes result (leaf_text pe number)
+    ensures { WritesOrFails result (leaf_text pe number)
         (S.taken sink.old) (S.taken sink.new) (S.failures sink.old) (S.failures sink.new) }
 {
     let mut of_pe = Buffer::new();
@@ -154,7 +154,7 @@ fn write_opening<S: Sink>(
     position: u32,
     sink: &mut S,
 ) -> Result<(), SinkFault>
-    ensures { Writes result (opening place stage position)
+    ensures { WritesOrFails result (opening place stage position)
         (S.taken sink.old) (S.taken sink.new) (S.failures sink.old) (S.failures sink.new) }
 {
     if place == 0 {
@@ -166,7 +166,7 @@ fn write_opening<S: Sink>(
 
 /// Writes where the requests of a pair met.
 fn write_head<S: Sink>(stage: u32, position: u32, sink: &mut S) -> Result<(), SinkFault>
-    ensures { Writes result (head_text stage position)
+    ensures { WritesOrFails result (head_text stage position)
         (S.taken sink.old) (S.taken sink.new) (S.failures sink.old) (S.failures sink.new) }
 {
     let mut text = ShortText::new();
@@ -180,7 +180,7 @@ fn write_head<S: Sink>(stage: u32, position: u32, sink: &mut S) -> Result<(), Si
 
 /// Closes this many pairs.
 fn write_closings<S: Sink>(count: u64, sink: &mut S) -> Result<(), SinkFault>
-    ensures { Writes result (closings count)
+    ensures { WritesOrFails result (closings count)
         (S.taken sink.old) (S.taken sink.new) (S.failures sink.old) (S.failures sink.new) }
 {
     for _ in 0..count {
@@ -191,7 +191,7 @@ fn write_closings<S: Sink>(count: u64, sink: &mut S) -> Result<(), SinkFault>
 
 /// Closes a pair.
 fn write_closing<S: Sink>(sink: &mut S) -> Result<(), SinkFault>
-    ensures { Writes result (codes "]")
+    ensures { WritesOrFails result (codes "]")
         (S.taken sink.old) (S.taken sink.new) (S.failures sink.old) (S.failures sink.new) }
 {
     write_all(sink, b"]")
@@ -200,7 +200,7 @@ fn write_closing<S: Sink>(sink: &mut S) -> Result<(), SinkFault>
 /// Writes which part of a pair comes first in the serial order, if the text goes on with its new
 /// part.
 fn write_mark<S: Sink>(mark: Option<bool>, sink: &mut S) -> Result<(), SinkFault>
-    ensures { Writes result (order_mark_text mark)
+    ensures { WritesOrFails result (order_mark_text mark)
         (S.taken sink.old) (S.taken sink.new) (S.failures sink.old) (S.failures sink.new) }
 {
     match mark {

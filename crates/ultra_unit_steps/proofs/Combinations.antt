@@ -1,6 +1,6 @@
 -- the combinations of two requests that come to a switch, in the order of the positions
 use Rattle.std.proofs.Common.{◌≡◌, ℕ, ◌-◌, List, [], ◌∷◌, ◌++◌, true, false, get_or, length, length-append, set, refl, arith, ◌&&◌, ◌||◌, ◌↔◌, is_some, Option}
-use Rattle.ultra_unit_steps.proofs.Common.{common_steps, Ports, Switch, Request, Event, SizedLane, present, lane_with, coming_to, combination_by, is_turned, in_order}
+use Rattle.ultra_unit_steps.proofs.Common.{common_steps, Ports, Switch, Request, Event, SizedLane, present, lane_with, coming_to, combination_by, are_ports_reversed, in_order}
 use Rattle.std.proofs.lemmas.List.{append-nil, set-append_right, get_or_at, get_or-append-add}
 use Rattle.ultra_unit_steps.specs.Switches.{combinations_of_both}
 
@@ -18,14 +18,14 @@ module _ (d s k : ℕ) (w : Switch) (first second : Option Request) (lanes : Por
   abbrev pub second_combination : Option Event
   second_combination = combination_by d s k lanes second
 
-  pub all_in_order : present (in_order (is_turned d s first second) first_combination second_combination) ≡ combinations_of_both d s k w first second
+  pub all_in_order : present (in_order (are_ports_reversed d s first second) first_combination second_combination) ≡ combinations_of_both d s k w first second
   all_in_order = rw (zero, one) (grind (arith, append-nil))
 
   pub combined_alone : (old items : List Event) → items ≡ (old ++ present (first_combination ∷ [])) ++ present (second_combination ∷ []) → is_some first_combination && is_some second_combination ≡ false → items ≡ old ++ combinations_of_both d s k w first second
   combined_alone old items are e = grind (arith, common_steps, all_in_order)
 
   pub combined_both : (old items now : List Event) → items ≡ (old ++ present (first_combination ∷ [])) ++ present (second_combination ∷ []) → is_some first_combination && is_some second_combination ≡ true
-      → ((front : List Event) (x y : Event) → items ≡ front ++ x ∷ y ∷ [] → now ≡ front ++ in_order (is_turned d s first second) x y) → now ≡ old ++ combinations_of_both d s k w first second
+      → ((front : List Event) (x y : Event) → items ≡ front ++ x ∷ y ∷ [] → now ≡ front ++ in_order (are_ports_reversed d s first second) x y) → now ≡ old ++ combinations_of_both d s k w first second
   combined_both old items now are e sorted = grind (arith, common_steps, all_in_order)
 
   pub none_combined : (is_some first_combination || is_some second_combination ≡ false) ↔ (combinations_of_both d s k w first second ≡ [])

@@ -1,6 +1,6 @@
 -- a processing element after each half of a cycle
 use Rattle.std.specs.Prelude.{List, [], Bool, true, false, not, ◌&&◌, Option, Some, None}
-use Rattle.ultra_unit_steps.specs.Prelude.{ReplyMessage, Event, Stop, Instr, Stepped, has_stopped, step_of, after_leaving, Element, deliver, stepped}
+use Rattle.ultra_unit_steps.specs.Prelude.{ReplyMessage, Event, Stop, Instr, StepResult, has_stopped, step_of, after_leaving, Element, deliver, stepped}
 use Rattle.ultra_isa.specs.{declared.Step.Step, declared.Step.TheVariants.Stalled, declared.Step.TheVariants.Halted}
 use Rattle.ultra_unit_steps.specs.{Halves.has_none, declared.elements.ProcessingElement.ProcessingElement, declared.elements.StepOutcome.StepOutcome, declared.elements.StepOutcome.TheVariants.Issued, declared.elements.StepOutcome.TheVariants.Faulted}
 
@@ -31,7 +31,7 @@ element_without e o =
       };
     }
 
-abbrev pub step_at : List Instr → ProcessingElement → Stepped
+abbrev pub step_at : List Instr → ProcessingElement → StepResult
 step_at program e =
     step_of e.processor.site e.interface.most_open program e.processor.core e.interface.interface
 

@@ -89,9 +89,9 @@ combination_by d s k lanes (Some r) =
     ]
 
 -- whether of two requests the second leaves stage s by port 0, and the first by port 1
-abbrev pub is_turned : ℕ → ℕ → Option Request → Option Request → Bool
-is_turned d s (Some f) (Some g) = leaves_by d s 1 f && leaves_by d s 0 g
-is_turned d s f g = false
+abbrev pub are_ports_reversed : ℕ → ℕ → Option Request → Option Request → Bool
+are_ports_reversed d s (Some f) (Some g) = leaves_by d s 1 f && leaves_by d s 0 g
+are_ports_reversed d s f g = false
 
 -- two in their order, or turned
 abbrev pub in_order : {X : Type 0} → Bool → X → X → List X

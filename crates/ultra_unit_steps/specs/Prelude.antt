@@ -2,7 +2,7 @@
 -- come from there.
 pub use Rattle.std.specs.List.{filter}
 pub use Rattle.std.specs.Option.{ForSome}
-pub use Rattle.ultra_isa.specs.Step.{Core, Stepped, has_stopped, step_of}
+pub use Rattle.ultra_isa.specs.Step.{Core, StepResult, has_stopped, step_of}
 pub use Rattle.ultra_isa.specs.declared.Instr.{Instr}
 pub use Rattle.ultra_model.specs.Machine.{Element, is_nothing}
 pub use Rattle.ultra_model.specs.Phases.{arrive_all, combinations, deliver, issue_event, records_left, replies_made, stepped, stop_of, without_reply}

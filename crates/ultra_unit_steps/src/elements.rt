@@ -71,7 +71,8 @@ impl ProcessingElement {
     pub fn execute(&mut self, program: &Program, pe: Pe) -> StepOutcome
         requires { self.old.issued < 2 ^ 32 - 1 }
         ensures element { self.new ≡ executed program.now self.old }
-        ensures issue { issue_in result ≡ issue_event (element_of self.old) (step_at program.now self.old).sent }
+        ensures issue { issue_in result ≡
+            issue_event (element_of self.old) (step_at program.now self.old).sent }
         ensures stop { stop_in result ≡ stop_of pe (step_at program.now self.old).was }
         ensures rest { (result ≡ StepOutcome.AtRest) ↔ IsTrue (is_at_rest program.now self.old) }
         ensures same { result ≡ StepOutcome.AtRest → self.new ≡ self.old }

@@ -24,7 +24,8 @@ fn put_reply(to_pe: &mut Ports<ToPe>, net: Net, stage: u32, reply: ReplyPacket)
     requires stage { stage < net }
     requires zero { length to_pe.old.zero.replies < to_pe.old.zero.places }
     requires one { length to_pe.old.one.replies < to_pe.old.one.places }
-    ensures { to_pe.new ≡ ports_by (λ j q. with_replies q (going_by net stage j (reply ∷ []))) to_pe.old }
+    ensures { to_pe.new ≡
+        ports_by (λ j q. with_replies q (going_by net stage j (reply ∷ []))) to_pe.old }
 {
     if net.reply_port(stage, reply.pe()) == 0 {
         to_pe.zero.put_packet(reply);
@@ -45,9 +46,13 @@ pub fn take_reply(
     reply: Option<ReplyPacket>,
 )
     requires stage { stage < net }
-    requires room { ForSome reply (λ _. (length to_pe.old.zero.replies + 2 ≤ to_pe.old.zero.places) × (length to_pe.old.one.replies + 2 ≤ to_pe.old.one.places)) }
+    requires room { ForSome reply (λ _.
+        (length to_pe.old.zero.replies + 2 ≤ to_pe.old.zero.places) ×
+        (length to_pe.old.one.replies + 2 ≤ to_pe.old.one.places)) }
     ensures records { to_mm.new ≡ lane_after_reply to_mm.old reply }
-    ensures queues { to_pe.new ≡ ports_by (λ j q. with_replies q (going_by net stage j (replies_made to_mm.old.lane.records reply))) to_pe.old }
+    ensures queues { to_pe.new ≡ ports_by
+        (λ j q. with_replies q (going_by net stage j (replies_made to_mm.old.lane.records reply)))
+        to_pe.old }
 {
     let Some(reply) = reply else {
         return;

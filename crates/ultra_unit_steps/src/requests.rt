@@ -3,7 +3,7 @@
 ghost use Rattle.std.specs.Prelude.{◌≡◌, ◌+◌, ◌-◌, ◌^◌, ◌<◌, ◌≤◌, ◌++◌, ◌∷◌, [], IsTrue, List, is_some, length, not, slice_get, vec_capacity};
 ghost use Rattle.ultra_msg.specs.Pair.{is_fixed};
 ghost use Rattle.ultra_unit_steps.specs.Prelude.{ForSome, Event, Combined, request_of, present};
-ghost use Rattle.ultra_unit_steps.specs.Halves.{combination_by, combination_in, coming_to, in_order, is_turned, lane_with, lane_without, leaves_by, where_room};
+ghost use Rattle.ultra_unit_steps.specs.Halves.{combination_by, combination_in, coming_to, in_order, are_ports_reversed, lane_with, lane_without, leaves_by, where_room};
 
 use crate::append;
 use ultra_msg::{Event, Pe, RequestPacket};
@@ -32,7 +32,8 @@ fn append_combination(
     wait_record: &WaitRecord,
 )
     requires { length events.old.items < vec_capacity events.old }
-    ensures entries { events.new.items ≡ events.old.items ++ Combined stage position request.now.cell old request.now.pe (not (is_fixed wait_record.now.give_old)) ∷ [] }
+    ensures entries { events.new.items ≡ events.old.items ++ Combined stage position
+        request.now.cell old request.now.pe (not (is_fixed wait_record.now.give_old)) ∷ [] }
     ensures places { vec_capacity events.old ≤ vec_capacity events.new }
 {
     let event = Event::Combined {
@@ -61,7 +62,8 @@ fn arrive(
     requires event_room { length events.old.items < vec_capacity events.old }
     ensures lane { to_mm.new ≡ lane_with to_mm.old (request.now ∷ []) }
     ensures longer { length to_mm.new.lane.queue ≤ length to_mm.old.lane.queue + 1 }
-    ensures events { events.new.items ≡ events.old.items ++ present (combination_in stage position to_mm.old request.now ∷ []) }
+    ensures events { events.new.items ≡
+        events.old.items ++ present (combination_in stage position to_mm.old request.now ∷ []) }
     ensures places { vec_capacity events.old ≤ vec_capacity events.new }
     ensures combined { result ≡ is_some (combination_in stage position to_mm.old request.now) }
 {
@@ -89,13 +91,17 @@ pub fn take_request(
 ) -> bool
     requires stage { stage < net }
     requires index { index < 2 ^ (net - 1) }
-    requires room { ForSome request.now (λ r. (IsTrue (leaves_by net stage 0 r) → length to_mm.old.zero.lane.queue < to_mm.old.zero.request_places) × (IsTrue (leaves_by net stage 1 r) → length to_mm.old.one.lane.queue < to_mm.old.one.request_places)) }
+    requires room { ForSome request.now (λ r. (IsTrue (leaves_by net stage 0 r) →
+        length to_mm.old.zero.lane.queue < to_mm.old.zero.request_places) ×
+        (IsTrue (leaves_by net stage 1 r) →
+        length to_mm.old.one.lane.queue < to_mm.old.one.request_places)) }
     requires event_room { length events.old.items < vec_capacity events.old }
     ensures zero { to_mm.new.zero ≡ lane_with to_mm.old.zero (coming_to net stage 0 request.now) }
     ensures one { to_mm.new.one ≡ lane_with to_mm.old.one (coming_to net stage 1 request.now) }
     ensures longer_zero { length to_mm.new.zero.lane.queue ≤ length to_mm.old.zero.lane.queue + 1 }
     ensures longer_one { length to_mm.new.one.lane.queue ≤ length to_mm.old.one.lane.queue + 1 }
-    ensures events { events.new.items ≡ events.old.items ++ present (combination_by net stage index to_mm.old request.now ∷ []) }
+    ensures events { events.new.items ≡
+        events.old.items ++ present (combination_by net stage index to_mm.old request.now ∷ []) }
     ensures places { vec_capacity events.old ≤ vec_capacity events.new }
     ensures few { length events.new.items ≤ length events.old.items + 1 }
     ensures combined { result ≡ is_some (combination_by net stage index to_mm.old request.now) }
@@ -112,16 +118,17 @@ pub fn take_request(
     }
 }
 
-/// The last two events change places, if `is_turned`.
+/// The last two events change places, if `are_ports_reversed`.
 #[inline(never)]
 #[tactic(auto, using(crate::proofs::Combinations::last_turned))]
-pub fn put_in_order(events: &mut Vec<Event>, is_turned: bool)
+pub fn put_in_order(events: &mut Vec<Event>, are_ports_reversed: bool)
     requires { 2 ≤ length events.old.items }
-    ensures entries { (front : List Event) (a b : Event) → events.old.items ≡ front ++ a ∷ b ∷ [] → events.new.items ≡ front ++ in_order is_turned a b }
+    ensures entries { (front : List Event) (a b : Event) → events.old.items ≡ front ++ a ∷ b ∷ [] →
+        events.new.items ≡ front ++ in_order are_ports_reversed a b }
     ensures places { vec_capacity events.old ≤ vec_capacity events.new }
     ensures few { length events.new.items ≡ length events.old.items }
 {
-    if is_turned {
+    if are_ports_reversed {
         let count = events.len();
         let (first, second) = (events[count - 2], events[count - 1]);
         events[count - 2] = second;
@@ -131,14 +138,14 @@ pub fn put_in_order(events: &mut Vec<Event>, is_turned: bool)
 
 /// Whether of two requests the second leaves the stage by port 0, and the first by port 1.
 #[inline(always)]
-pub fn is_turned(
+pub fn are_ports_reversed(
     net: Net,
     stage: u32,
     first: &Option<RequestPacket>,
     second: &Option<RequestPacket>,
 ) -> bool
     requires { stage < net }
-    ensures { result ≡ is_turned net stage first.now second.now }
+    ensures { result ≡ are_ports_reversed net stage first.now second.now }
 {
     let (Some(first), Some(second)) = (first, second) else {
         return false;

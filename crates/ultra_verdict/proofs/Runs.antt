@@ -2,7 +2,7 @@
 use Rattle.std.proofs.Common.{◌≡◌, ℕ, zero, suc, ◌≤◌, ◌⊎◌, List, [], ◌∷◌, true, inl, inr, sym, ap, subst, ◌∙◌, ⊎_elim}
 use Rattle.std.proofs.Math.Path.{fun_ext}
 use Rattle.ultra_isa.specs.declared.Instr.{Instr}
-use Rattle.ultra_machine.specs.Running.{Running}
+use Rattle.ultra_machine.specs.MachineState.{MachineState}
 use Rattle.ultra_model.specs.Machine.{Settings, Machine, is_quiet}
 use Rattle.ultra_model.specs.Phases.{after}
 use Rattle.ultra_model.specs.Ranges.{AreInRange}
@@ -48,7 +48,7 @@ module _ (c : Settings) (range : AreInRange c) (program : List Instr) where
   cells_served : (n : ℕ) (a : ℕ) → cell_value c (after c program n) a ≡ cells_after (given c.initial) (history c program n).order a
   cells_served n a = sym ((serial_after c range program n).cells a)
 
-  module _ (m : Running) (run : HasRun c program c.cycles m) where
+  module _ (m : MachineState) (run : HasRun c program c.cycles m) where
     ended : EndsWell c program m.state.cycles
     ended = ⊎_elim (λ e. inl e) (λ h. inr (h.0, ap (λ (u : Machine). is_quiet u) (sym run.state) ∙ h.1)) run.end
 

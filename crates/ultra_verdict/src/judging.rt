@@ -15,7 +15,7 @@ use std::alloc::{AllocError, Global};
 use ultra_isa::Program;
 use ultra_machine::Config;
 use ultra_msg::{Cell, Word};
-use ultra_serial::{BreachKind, CheckFault, check, latest_issue, log_and_machine};
+use ultra_serial::{BreachKind, CheckFault, check, latest_issued_entry, log_and_machine};
 use ultra_serial_law::{Entry, Log};
 
 /// The verdict on a list for a run with the cycles of its trace. An error says that memory was
@@ -137,7 +137,8 @@ impl Case<'_> {
     {
         let line = index + 1;
         let entry = self.list[index];
-        let Some((after, issued)) = latest_issue(alloc, self.log, &self.list[..index])? else {
+        let Some((after, issued)) = latest_issued_entry(alloc, self.log, &self.list[..index])?
+        else {
             unreachable!()
         };
         Ok(Verdict::TooLate {

@@ -34,13 +34,13 @@ pub fn write_verdict<S: Sink>(
     list: &[Entry],
     sink: &mut S,
 ) -> Result<bool, VerdictFault>
-    ensures ok { IfOk result (IsVerdictWritten config.now program.now list.now
-        (S.taken sink.old) (S.taken sink.new)) }
+    ensures ok { IfOk result
+        (IsVerdictWritten config.now program.now list.now (S.taken sink.old) (S.taken sink.new)) }
     ensures legal { IfOk result
         (λ legal. (legal ≡ true) ↔ IsLegalFor config.now program.now list.now) }
     ensures still { OnOk result (S.failures sink.new ≡ S.failures sink.old) }
-    ensures err { IfErr result (VerdictFails config.now program.now list.now
-        (S.taken sink.old) (S.taken sink.new)) }
+    ensures err { IfErr result
+        (VerdictFails config.now program.now list.now (S.taken sink.old) (S.taken sink.new)) }
     ensures counted { IfErr result
         (λ fault. S.failures sink.new ≡ S.failures sink.old + failures_of_verdict fault) }
 {

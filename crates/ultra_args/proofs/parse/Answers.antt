@@ -15,17 +15,17 @@ returns-in-Ok-clause-help c = help_alone (map (λ w. w.now) c.args.words.now) (p
 pub returns-in-Ok-clause-version : goal.returns-in-Ok-clause-version
 returns-in-Ok-clause-version c = version_alone (map (λ w. w.now) c.args.words.now) (parsed.Invocation c.in-Ok.command) c.in-Ok.ensures
 
-pub returns-in-Ok-shown-clause-run : goal.returns-in-Ok-shown-clause-run
-returns-in-Ok-shown-clause-run c =
+pub returns-in-Ok-error_text-clause-run : goal.returns-in-Ok-error_text-clause-run
+returns-in-Ok-error_text-clause-run c =
     let words : List Text = map (λ w. w.now) c.args.words.now in
-    run_of_paths words c.text_of_kind.result (text_asked words c.kind.result _ c.text_of_kind.result c.kind.ensures c.in-Err.ensures c.in-Ok-shown.ensures c.text_of_kind.ensures)
+    run_of_paths words c.text_of_kind.result (text_asked words c.kind.result _ c.text_of_kind.result c.kind.ensures c.in-Err.ensures c.in-Ok-error_text.ensures c.text_of_kind.ensures)
 
-pub returns-in-Ok-shown-clause-help : goal.returns-in-Ok-shown-clause-help
-returns-in-Ok-shown-clause-help c =
+pub returns-in-Ok-error_text-clause-help : goal.returns-in-Ok-error_text-clause-help
+returns-in-Ok-error_text-clause-help c =
     let words : List Text = map (λ w. w.now) c.args.words.now in
-    help_alone words c.text_of_kind.result (text_asked words c.kind.result _ c.text_of_kind.result c.kind.ensures c.in-Err.ensures c.in-Ok-shown.ensures c.text_of_kind.ensures)
+    help_alone words c.text_of_kind.result (text_asked words c.kind.result _ c.text_of_kind.result c.kind.ensures c.in-Err.ensures c.in-Ok-error_text.ensures c.text_of_kind.ensures)
 
-pub returns-in-Ok-shown-clause-version : goal.returns-in-Ok-shown-clause-version
-returns-in-Ok-shown-clause-version c =
+pub returns-in-Ok-error_text-clause-version : goal.returns-in-Ok-error_text-clause-version
+returns-in-Ok-error_text-clause-version c =
     let words : List Text = map (λ w. w.now) c.args.words.now in
-    version_alone words c.text_of_kind.result (text_asked words c.kind.result _ c.text_of_kind.result c.kind.ensures c.in-Err.ensures c.in-Ok-shown.ensures c.text_of_kind.ensures)
+    version_alone words c.text_of_kind.result (text_asked words c.kind.result _ c.text_of_kind.result c.kind.ensures c.in-Err.ensures c.in-Ok-error_text.ensures c.text_of_kind.ensures)

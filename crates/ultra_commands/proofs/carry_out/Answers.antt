@@ -29,7 +29,7 @@ returns-in-Run g c =
     let new = traffic (g.F.Source.files c.run-done.new.source) (g.O.Sink.taken c.run-done.new.out) in
     let did = rw c.part_asked-part.ensures at c.run-done.ensures in
     let part = part_asked a.from a.to a.only in
-    rw a.is (command_ended (parsed.Invocation (Run a.settings a.program a.workers a.from a.to a.only)) old new _ _ _ _ _ _ _ c.run-done.result (WroteRun part conf prog old new) (RunFails part a.workers conf prog old new) (λ d same. (d, same)) (λ f why. (why, refl)) (λ f. run_refused conf prog old new f part a.workers) did.ok did.err did.read_still did.read_counted did.write_still did.write_counted c.ended.ensures)
+    rw a.is (command_ended (parsed.Invocation (Run a.settings a.program a.workers a.from a.to a.only)) old new _ _ _ _ _ _ _ c.run-done.result (WroteRun part conf prog old new) (RunFails part a.workers conf prog old new) (λ d same. (d, same)) (λ f why. (why, refl)) (λ f. run_refused conf prog old new f part a.workers) did.ok did.err did.read_still did.read_counted did.write_still did.write_counted c.report_outcome.ensures)
 
 pub returns-in-Events : goal.returns-in-Events
 returns-in-Events g c =
@@ -39,7 +39,7 @@ returns-in-Events g c =
     let old = traffic (g.F.Source.files c.args.source.now) (g.O.Sink.taken c.args.out.now) in
     let new = traffic (g.F.Source.files c.write_run_output-done.new.source) (g.O.Sink.taken c.write_run_output-done.new.out) in
     let did = c.write_run_output-done.ensures in
-    rw a.is (text_ended (parsed.Invocation (Events a.settings a.program a.from a.to)) old new _ _ _ _ _ _ _ c.write_run_output-done.result (events_of a.from a.to) conf prog (λ d same. (d, same)) (λ f why. (why, refl)) did.ok did.err did.read_still did.read_counted did.write_still did.write_counted c.ended-in-Events.ensures)
+    rw a.is (text_ended (parsed.Invocation (Events a.settings a.program a.from a.to)) old new _ _ _ _ _ _ _ c.write_run_output-done.result (events_of a.from a.to) conf prog (λ d same. (d, same)) (λ f why. (why, refl)) did.ok did.err did.read_still did.read_counted did.write_still did.write_counted c.report_outcome-in-Events.ensures)
 
 pub returns-in-Requests : goal.returns-in-Requests
 returns-in-Requests g c =
@@ -49,7 +49,7 @@ returns-in-Requests g c =
     let old = traffic (g.F.Source.files c.args.source.now) (g.O.Sink.taken c.args.out.now) in
     let new = traffic (g.F.Source.files c.write_run_output-done-in-Requests.new.source) (g.O.Sink.taken c.write_run_output-done-in-Requests.new.out) in
     let did = c.write_run_output-done-in-Requests.ensures in
-    rw a.is (text_ended (parsed.Invocation (Requests a.settings a.program)) old new _ _ _ _ _ _ _ c.write_run_output-done-in-Requests.result requests_of conf prog (λ d same. (d, same)) (λ f why. (why, refl)) did.ok did.err did.read_still did.read_counted did.write_still did.write_counted c.ended-in-Requests.ensures)
+    rw a.is (text_ended (parsed.Invocation (Requests a.settings a.program)) old new _ _ _ _ _ _ _ c.write_run_output-done-in-Requests.result requests_of conf prog (λ d same. (d, same)) (λ f why. (why, refl)) did.ok did.err did.read_still did.read_counted did.write_still did.write_counted c.report_outcome-in-Requests.ensures)
 
 pub returns-in-Measure : goal.returns-in-Measure
 returns-in-Measure g c =
@@ -59,7 +59,7 @@ returns-in-Measure g c =
     let old = traffic (g.F.Source.files c.args.source.now) (g.O.Sink.taken c.args.out.now) in
     let new = traffic (g.F.Source.files c.write_run_output-done-in-Measure.new.source) (g.O.Sink.taken c.write_run_output-done-in-Measure.new.out) in
     let did = c.write_run_output-done-in-Measure.ensures in
-    rw a.is (text_ended (parsed.Invocation (Measure a.settings a.program a.csv a.every)) old new _ _ _ _ _ _ _ c.write_run_output-done-in-Measure.result (measures_asked a.csv a.every) conf prog (λ d same. (d, same)) (λ f why. (why, refl)) did.ok did.err did.read_still did.read_counted did.write_still did.write_counted c.ended-in-Measure.ensures)
+    rw a.is (text_ended (parsed.Invocation (Measure a.settings a.program a.csv a.every)) old new _ _ _ _ _ _ _ c.write_run_output-done-in-Measure.result (measures_asked a.csv a.every) conf prog (λ d same. (d, same)) (λ f why. (why, refl)) did.ok did.err did.read_still did.read_counted did.write_still did.write_counted c.report_outcome-in-Measure.ensures)
 
 pub returns-in-Order : goal.returns-in-Order
 returns-in-Order g c =
@@ -69,7 +69,7 @@ returns-in-Order g c =
     let old = traffic (g.F.Source.files c.args.source.now) (g.O.Sink.taken c.args.out.now) in
     let new = traffic (g.F.Source.files c.write_run_output-done-in-Order.new.source) (g.O.Sink.taken c.write_run_output-done-in-Order.new.out) in
     let did = c.write_run_output-done-in-Order.ensures in
-    rw a.is (text_ended (parsed.Invocation (Order a.settings a.program)) old new _ _ _ _ _ _ _ c.write_run_output-done-in-Order.result order_of conf prog (λ d same. (d, same)) (λ f why. (why, refl)) did.ok did.err did.read_still did.read_counted did.write_still did.write_counted c.ended-in-Order.ensures)
+    rw a.is (text_ended (parsed.Invocation (Order a.settings a.program)) old new _ _ _ _ _ _ _ c.write_run_output-done-in-Order.result order_of conf prog (λ d same. (d, same)) (λ f why. (why, refl)) did.ok did.err did.read_still did.read_counted did.write_still did.write_counted c.report_outcome-in-Order.ensures)
 
 pub returns-in-Explain : goal.returns-in-Explain
 returns-in-Explain g c =
@@ -79,7 +79,7 @@ returns-in-Explain g c =
     let old = traffic (g.F.Source.files c.args.source.now) (g.O.Sink.taken c.args.out.now) in
     let new = traffic (g.F.Source.files c.explain-done.new.source) (g.O.Sink.taken c.explain-done.new.out) in
     let did = c.explain-done.ensures in
-    rw a.is (command_ended (parsed.Invocation (Explain a.settings a.program a.heap)) old new _ _ _ _ _ _ _ c.explain-done.result (WroteText explanation_of conf prog old new) (ExplainFails conf prog old new) (λ d same. (d, same)) (λ f why. (why, refl)) (explain_refused conf prog old new) did.ok (explain_failed conf prog old new c.explain-done.result did.err did.full) did.read_still did.read_counted did.write_still did.write_counted c.ended-in-Explain.ensures)
+    rw a.is (command_ended (parsed.Invocation (Explain a.settings a.program a.heap)) old new _ _ _ _ _ _ _ c.explain-done.result (WroteText explanation_of conf prog old new) (ExplainFails conf prog old new) (λ d same. (d, same)) (λ f why. (why, refl)) (explain_refused conf prog old new) did.ok (explain_failed conf prog old new c.explain-done.result did.err did.full) did.read_still did.read_counted did.write_still did.write_counted c.report_outcome-in-Explain.ensures)
 
 pub returns-in-Check : goal.returns-in-Check
 returns-in-Check g c =
@@ -89,7 +89,7 @@ returns-in-Check g c =
     let old = traffic (g.F.Source.files c.args.source.now) (g.O.Sink.taken c.args.out.now) in
     let new = traffic (g.F.Source.files c.check-done.new.source) (g.O.Sink.taken c.check-done.new.out) in
     let did = c.check-done.ensures in
-    rw a.is (command_ended (parsed.Invocation (Check a.settings a.program a.list)) old new _ _ _ _ _ _ _ c.check-done.result (WroteLegal conf prog a.list.now old new) (CheckFails conf prog a.list.now old new) (λ d same. (d, same)) (λ f why. (why, refl)) (λ f. check_refused conf prog a.list.now old new f) did.ok did.err did.read_still did.read_counted did.write_still did.write_counted c.ended-in-Check.ensures)
+    rw a.is (command_ended (parsed.Invocation (Check a.settings a.program a.list)) old new _ _ _ _ _ _ _ c.check-done.result (WroteLegal conf prog a.list.now old new) (CheckFails conf prog a.list.now old new) (λ d same. (d, same)) (λ f why. (why, refl)) (λ f. check_refused conf prog a.list.now old new f) did.ok did.err did.read_still did.read_counted did.write_still did.write_counted c.report_outcome-in-Check.ensures)
 
 pub returns-in-Para : goal.returns-in-Para
 returns-in-Para g c =
@@ -99,7 +99,7 @@ returns-in-Para g c =
     let old = traffic (g.F.Source.files c.args.source.now) (g.O.Sink.taken c.args.out.now) in
     let new = traffic (g.F.Source.files c.para-done.new.source) (g.O.Sink.taken c.para-done.new.out) in
     let did = c.para-done.ensures in
-    rw a.is (command_ended (parsed.Invocation (Para a.settings a.program a.schedule a.only_end)) old new _ _ _ _ _ _ _ c.para-done.result (WrotePara a.schedule a.only_end conf prog old new) (ParaFails a.schedule a.only_end conf prog old new) (λ d same. (d, same)) (λ f why. (why, refl)) (λ f. para_refused a.schedule a.only_end conf prog old new f) did.ok did.err did.read_still did.read_counted did.write_still did.write_counted c.ended-in-Para.ensures)
+    rw a.is (command_ended (parsed.Invocation (Para a.settings a.program a.schedule a.only_end)) old new _ _ _ _ _ _ _ c.para-done.result (WrotePara a.schedule a.only_end conf prog old new) (ParaFails a.schedule a.only_end conf prog old new) (λ d same. (d, same)) (λ f why. (why, refl)) (λ f. para_refused a.schedule a.only_end conf prog old new f) did.ok did.err did.read_still did.read_counted did.write_still did.write_counted c.report_outcome-in-Para.ensures)
 
 pub returns-in-List : goal.returns-in-List
 returns-in-List g c =
@@ -108,7 +108,7 @@ returns-in-List g c =
     let old = traffic (g.F.Source.files c.args.source.now) (g.O.Sink.taken c.args.out.now) in
     let new = traffic (g.F.Source.files c.list.new.source) (g.O.Sink.taken c.list.new.out) in
     let did = c.list.ensures in
-    rw a.is (command_ended (parsed.Invocation (ListOf a.program a.careful)) old new _ _ _ _ _ _ _ c.list.result (WroteListing prog a.careful old new) (ListFails prog a.careful old new) (λ d same. (d, same)) (λ f why. (why, refl)) (λ f. list_refused prog a.careful old new f) did.ok did.err did.read_still did.read_counted did.write_still did.write_counted c.ended-in-List.ensures)
+    rw a.is (command_ended (parsed.Invocation (ListOf a.program a.careful)) old new _ _ _ _ _ _ _ c.list.result (WroteListing prog a.careful old new) (ListFails prog a.careful old new) (λ d same. (d, same)) (λ f why. (why, refl)) (λ f. list_refused prog a.careful old new f) did.ok did.err did.read_still did.read_counted did.write_still did.write_counted c.report_outcome-in-List.ensures)
 
 pub returns-in-Sweep : goal.returns-in-Sweep
 returns-in-Sweep g c =
@@ -128,4 +128,4 @@ returns-in-Lib g c =
     let fails = LibFails a.coordination old new in
     let read_still : OnOk result (read ≡ read) = on_ok_weaker result (λ d. refl) did.ok in
     let read_counted = IfErr-weaker result fails (λ f. read ≡ read + read_failures f) (λ f why. let none = lib_unread a.coordination old new f why in omega (arith, none)) did.err in
-    rw a.is (command_ended (parsed.Invocation (Lib a.coordination)) (traffic files old) (traffic files new) _ _ _ _ _ _ _ result (WroteProgram a.coordination old new) fails (λ d same. (refl, d, same)) (λ f why. (refl, why, refl)) (λ f. lib_refused a.coordination old new f) did.ok did.err read_still read_counted did.still did.counted c.ended-in-Lib.ensures)
+    rw a.is (command_ended (parsed.Invocation (Lib a.coordination)) (traffic files old) (traffic files new) _ _ _ _ _ _ _ result (WroteProgram a.coordination old new) fails (λ d same. (refl, d, same)) (λ f why. (refl, why, refl)) (λ f. lib_refused a.coordination old new f) did.ok did.err read_still read_counted did.still did.counted c.report_outcome-in-Lib.ensures)

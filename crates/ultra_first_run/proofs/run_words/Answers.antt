@@ -26,21 +26,21 @@ returns-in-Ok-clause-ended g c = done _ _ (are_paths string_bytes c.args.words.n
 
 pub returns-in-Err-clause-ended : goal.returns-in-Err-clause-ended
 returns-in-Err-clause-ended g c =
-    failed _ _ (are_paths string_bytes c.args.words.now c.settings-item.result c.program-item.result _ _ c.in-len3.len_at_least c.in-len3.len_below c.settings-item.is c.program-item.is c.as_str.ensures.value c.as_str-2.ensures.value) c.in-Err.failure c.give_up.ensures.status c.in-Err.ensures.err
-    (record { begun = c.give_up.ensures.prefix; whole = c.give_up.ensures.whole }) c.in-Err.ensures.read_counted
+    failed _ _ (are_paths string_bytes c.args.words.now c.settings-item.result c.program-item.result _ _ c.in-len3.len_at_least c.in-len3.len_below c.settings-item.is c.program-item.is c.as_str.ensures.value c.as_str-2.ensures.value) c.in-Err.failure c.report_failure.ensures.status c.in-Err.ensures.err
+    (record { begun = c.report_failure.ensures.prefix; whole = c.report_failure.ensures.whole }) c.in-Err.ensures.read_counted
 
 pub returns-in-Err-clause-status : goal.returns-in-Err-clause-status
-returns-in-Err-clause-status g c = rw c.give_up.ensures.status (ends c.in-Err.failure).status
+returns-in-Err-clause-status g c = rw c.report_failure.ensures.status (ends c.in-Err.failure).status
 
 pub returns-in-Err-clause-nothing : goal.returns-in-Err-clause-nothing
 returns-in-Err-clause-nothing g c refusal =
-    stopped_refused _ _ _ _ c.in-Err.failure trace c.in-Err.ensures.err (subst IsRefusal c.give_up.ensures.status refusal)
+    stopped_refused _ _ _ _ c.in-Err.failure trace c.in-Err.ensures.err (subst IsRefusal c.report_failure.ensures.status refusal)
 
 pub returns-in-Err-clause-counted : goal.returns-in-Err-clause-counted
 returns-in-Err-clause-counted g c =
-    rw (c.give_up.ensures.status, ← (ends c.in-Err.failure).written) c.in-Err.ensures.write_counted
+    rw (c.report_failure.ensures.status, ← (ends c.in-Err.failure).written) c.in-Err.ensures.write_counted
 
 pub returns-in-Err-clause-read_still : goal.returns-in-Err-clause-read_still
 returns-in-Err-clause-read_still g c other =
-    let none = (ends c.in-Err.failure).unread (λ three. other (c.give_up.ensures.status ∙ three)) in
+    let none = (ends c.in-Err.failure).unread (λ three. other (c.report_failure.ensures.status ∙ three)) in
     omega (arith, none, c.in-Err.ensures.read_counted)

@@ -9,7 +9,7 @@ use Rattle.ultra_sweep_command.proofs.sweep.Goals as goal
 pub returns-in-Err-clause-failed : goal.returns-in-Err-clause-failed
 returns-in-Err-clause-failed g c ne =
     let before = stream (g.E.Sink.taken c.args.err.now) (g.E.Sink.failures c.args.err.now) in
-    let given_up = c.give_up.ensures in
+    let given_up = c.report_failure.ensures in
     record {
       failure = c.in-Err.failure;
       shown = before;
@@ -23,7 +23,7 @@ pub returns-clause-failed : goal.returns-clause-failed
 returns-clause-failed g c ne =
     let gave = c.in-Ok.ensures.ok in
     let why = c.in-Err-sweep_jobs.ensures in
-    let given_up = c.give_up-in-Err-sweep_jobs.ensures in
+    let given_up = c.report_failure-in-Err-sweep_jobs.ensures in
     record {
       failure = c.in-Err-sweep_jobs.failure;
       shown = stream (g.E.Sink.taken c.sweep_jobs.new.err) (g.E.Sink.failures c.sweep_jobs.new.err);
@@ -36,29 +36,29 @@ returns-clause-failed g c ne =
 pub returns-in-Err-clause-counted : goal.returns-in-Err-clause-counted
 returns-in-Err-clause-counted g c ne =
     let none = unlisted_none _ _ _ _ c.in-Err.ensures.err in
-    (c.in-Err.failure, sym c.give_up.ensures.status, omega (arith, none))
+    (c.in-Err.failure, sym c.report_failure.ensures.status, omega (arith, none))
 
 pub returns-clause-counted : goal.returns-clause-counted
 returns-clause-counted g c ne =
-    (c.in-Err-sweep_jobs.failure, sym c.give_up-in-Err-sweep_jobs.ensures.status, c.in-Err-sweep_jobs.ensures.write_counted)
+    (c.in-Err-sweep_jobs.failure, sym c.report_failure-in-Err-sweep_jobs.ensures.status, c.in-Err-sweep_jobs.ensures.write_counted)
 
 pub returns-in-Err-clause-done : goal.returns-in-Err-clause-done
-returns-in-Err-clause-done g c z = absurd (never_done c.in-Err.failure (sym c.give_up.ensures.status ∙ z))
+returns-in-Err-clause-done g c z = absurd (never_done c.in-Err.failure (sym c.report_failure.ensures.status ∙ z))
 
 pub returns-in-Err-clause-read_still : goal.returns-in-Err-clause-read_still
-returns-in-Err-clause-read_still g c z = absurd (never_done c.in-Err.failure (sym c.give_up.ensures.status ∙ z))
+returns-in-Err-clause-read_still g c z = absurd (never_done c.in-Err.failure (sym c.report_failure.ensures.status ∙ z))
 
 pub returns-in-Err-clause-still : goal.returns-in-Err-clause-still
 returns-in-Err-clause-still g c z = refl
 
 pub returns-clause-done : goal.returns-clause-done
-returns-clause-done g c z = absurd (never_done c.in-Err-sweep_jobs.failure (sym c.give_up-in-Err-sweep_jobs.ensures.status ∙ z))
+returns-clause-done g c z = absurd (never_done c.in-Err-sweep_jobs.failure (sym c.report_failure-in-Err-sweep_jobs.ensures.status ∙ z))
 
 pub returns-clause-read_still : goal.returns-clause-read_still
-returns-clause-read_still g c z = absurd (never_done c.in-Err-sweep_jobs.failure (sym c.give_up-in-Err-sweep_jobs.ensures.status ∙ z))
+returns-clause-read_still g c z = absurd (never_done c.in-Err-sweep_jobs.failure (sym c.report_failure-in-Err-sweep_jobs.ensures.status ∙ z))
 
 pub returns-clause-still : goal.returns-clause-still
-returns-clause-still g c z = absurd (never_done c.in-Err-sweep_jobs.failure (sym c.give_up-in-Err-sweep_jobs.ensures.status ∙ z))
+returns-clause-still g c z = absurd (never_done c.in-Err-sweep_jobs.failure (sym c.report_failure-in-Err-sweep_jobs.ensures.status ∙ z))
 
 -- a sweep that succeeds
 pub returns-in-Ok-sweep_jobs-clause-done : goal.returns-in-Ok-sweep_jobs-clause-done

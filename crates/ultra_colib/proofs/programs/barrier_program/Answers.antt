@@ -11,10 +11,10 @@ use Rattle.ultra_colib.proofs.programs.barrier_program.Goals as goal
 pub returns-clause-program : goal.returns-clause-program
 returns-clause-program c =
     let is = c.as_str.ensures.value ∙ c.in_ok-text.ensures in
-    c.assembled.ensures.program (barrier c.args.rounds) (subst (λ (text : List ℕ). IsProgramText text (barrier c.args.rounds)) (sym is) (reads c.args.rounds (omega (arith, c.ranges.rounds))))
+    c.assemble_text.ensures.program (barrier c.args.rounds) (subst (λ (text : List ℕ). IsProgramText text (barrier c.args.rounds)) (sym is) (reads c.args.rounds (omega (arith, c.ranges.rounds))))
 
 pub returns-clause-text : goal.returns-clause-text
-returns-clause-text c = well (IsProgramText (barrier_text c.args.rounds)) (barrier c.args.rounds) c.assembled.result (returns-clause-program c) (reads c.args.rounds (omega (arith, c.ranges.rounds)))
+returns-clause-text c = well (IsProgramText (barrier_text c.args.rounds)) (barrier c.args.rounds) c.assemble_text.result (returns-clause-program c) (reads c.args.rounds (omega (arith, c.ranges.rounds)))
 
 pub returns-clause-careful : goal.returns-clause-careful
-returns-clause-careful c = well (λ (p : List Instr). is_careful p ≡ true) (barrier c.args.rounds) c.assembled.result (returns-clause-program c) refl
+returns-clause-careful c = well (λ (p : List Instr). is_careful p ≡ true) (barrier c.args.rounds) c.assemble_text.result (returns-clause-program c) refl

@@ -11,10 +11,10 @@ use Rattle.ultra_colib.proofs.programs.queue_program.Goals as goal
 pub returns-clause-program : goal.returns-clause-program
 returns-clause-program c =
     let is = c.as_str.ensures.value ∙ c.in_ok-text.ensures in
-    c.assembled.ensures.program (queue c.args.log_size c.args.rounds) (subst (λ (text : List ℕ). IsProgramText text (queue c.args.log_size c.args.rounds)) (sym is) (reads c.args.log_size c.if-log_size-gt-MOST_LOG_SIZE.false c.args.rounds (omega (arith, c.ranges.rounds))))
+    c.assemble_text.ensures.program (queue c.args.log_size c.args.rounds) (subst (λ (text : List ℕ). IsProgramText text (queue c.args.log_size c.args.rounds)) (sym is) (reads c.args.log_size c.if-log_size-gt-MOST_LOG_SIZE.false c.args.rounds (omega (arith, c.ranges.rounds))))
 
 pub returns-clause-text : goal.returns-clause-text
-returns-clause-text c = well (IsProgramText (queue_text c.args.log_size c.args.rounds)) (queue c.args.log_size c.args.rounds) c.assembled.result (returns-clause-program c) (reads c.args.log_size c.if-log_size-gt-MOST_LOG_SIZE.false c.args.rounds (omega (arith, c.ranges.rounds)))
+returns-clause-text c = well (IsProgramText (queue_text c.args.log_size c.args.rounds)) (queue c.args.log_size c.args.rounds) c.assemble_text.result (returns-clause-program c) (reads c.args.log_size c.if-log_size-gt-MOST_LOG_SIZE.false c.args.rounds (omega (arith, c.ranges.rounds)))
 
 pub returns-clause-careful : goal.returns-clause-careful
-returns-clause-careful c = well (λ (p : List Instr). is_careful p ≡ true) (queue c.args.log_size c.args.rounds) c.assembled.result (returns-clause-program c) refl
+returns-clause-careful c = well (λ (p : List Instr). is_careful p ≡ true) (queue c.args.log_size c.args.rounds) c.assemble_text.result (returns-clause-program c) refl

@@ -11,10 +11,10 @@ use Rattle.ultra_colib.proofs.programs.rw_program.Goals as goal
 pub returns-clause-program : goal.returns-clause-program
 returns-clause-program c =
     let is = c.as_str.ensures.value ∙ c.in_ok-text.ensures in
-    c.assembled.ensures.program (readers_writers c.args.writers c.args.rounds) (subst (λ (text : List ℕ). IsProgramText text (readers_writers c.args.writers c.args.rounds)) (sym is) (reads c.args.writers (omega (arith, c.ranges.writers)) c.args.rounds (omega (arith, c.ranges.rounds))))
+    c.assemble_text.ensures.program (readers_writers c.args.writers c.args.rounds) (subst (λ (text : List ℕ). IsProgramText text (readers_writers c.args.writers c.args.rounds)) (sym is) (reads c.args.writers (omega (arith, c.ranges.writers)) c.args.rounds (omega (arith, c.ranges.rounds))))
 
 pub returns-clause-text : goal.returns-clause-text
-returns-clause-text c = well (IsProgramText (rw_text c.args.writers c.args.rounds)) (readers_writers c.args.writers c.args.rounds) c.assembled.result (returns-clause-program c) (reads c.args.writers (omega (arith, c.ranges.writers)) c.args.rounds (omega (arith, c.ranges.rounds)))
+returns-clause-text c = well (IsProgramText (rw_text c.args.writers c.args.rounds)) (readers_writers c.args.writers c.args.rounds) c.assemble_text.result (returns-clause-program c) (reads c.args.writers (omega (arith, c.ranges.writers)) c.args.rounds (omega (arith, c.ranges.rounds)))
 
 pub returns-clause-careful : goal.returns-clause-careful
-returns-clause-careful c = well (λ (p : List Instr). is_careful p ≡ true) (readers_writers c.args.writers c.args.rounds) c.assembled.result (returns-clause-program c) refl
+returns-clause-careful c = well (λ (p : List Instr). is_careful p ≡ true) (readers_writers c.args.writers c.args.rounds) c.assemble_text.result (returns-clause-program c) refl

@@ -1,14 +1,14 @@
 use Rattle.std.proofs.Common.{◌≡◌, ◌∙◌, true, false, refl, ap}
 use Rattle.ultra_msg.proofs.Prefixes.{takes_none}
 use Rattle.ultra_msg.specs.declared.Event.{Event}
-use Rattle.ultra_tree.specs.Absorb.{Explained, ExplainsExplainFault, IsCombination}
+use Rattle.ultra_tree.specs.Absorb.{ExplainerState, ExplainsExplainFault, IsCombination}
 use Rattle.ultra_tree.specs.declared.explaining.ExplainFault.{ExplainFault}
 use Rattle.ultra_tree.specs.declared.explaining.ExplainFault.TheVariants.{Full, Spent}
 use Rattle.ultra_commands.proofs.acts.put_event.Goals as goal
 
 -- an explainer that wasn't spent is so now, after a combination
-full_there : (old : Explained) (e : Event) (f : ExplainFault) (new : Explained) → old.is_spent ≡ false → ExplainsExplainFault old e f new → IsCombination e × (new.is_spent ≡ true)
-full_there old e Full new working h = (h.1, ap (λ (x : Explained). x.is_spent) h.2)
+full_there : (old : ExplainerState) (e : Event) (f : ExplainFault) (new : ExplainerState) → old.is_spent ≡ false → ExplainsExplainFault old e f new → IsCombination e × (new.is_spent ≡ true)
+full_there old e Full new working h = (h.1, ap (λ (x : ExplainerState). x.is_spent) h.2)
 full_there old e Spent new working h = let spent = h.0 in absurd cc
 
 pub returns-in_default-clause-err : goal.returns-in_default-clause-err
@@ -30,4 +30,4 @@ pub returns-in-Ok-write_act-clause-trees : goal.returns-in-Ok-write_act-clause-t
 returns-in-Ok-write_act-clause-trees g c = c.in-Ok.ensures.trees
 
 pub returns-clause-no_memory : goal.returns-clause-no_memory
-returns-clause-no_memory g c = λ _. ap (λ (x : Explained). x.is_spent) c.in-Ok.ensures.trees ∙ c.requires.working
+returns-clause-no_memory g c = λ _. ap (λ (x : ExplainerState). x.is_spent) c.in-Ok.ensures.trees ∙ c.requires.working

@@ -2,7 +2,7 @@ use Rattle.std.proofs.Common.{◌∙◌, ap, refl, sym, append-nil, ◌++◌}
 use Rattle.std.proofs.lemmas.List.{take_all}
 use Rattle.std.proofs.lemmas.Option.{slice_get-get_or}
 use Rattle.std.proofs.lemmas.Result.{err_from_is_err_and}
-use Rattle.ultra_tree.specs.Absorb.{Explained}
+use Rattle.ultra_tree.specs.Absorb.{ExplainerState}
 use Rattle.ultra_commands.specs.Explanation.{event_lines, trees_after_all}
 use Rattle.ultra_commands.proofs.Firsts.{absorbed_next, begun_there, left_come, put_next}
 use Rattle.ultra_commands.proofs.acts.put_lines.Goals as goal
@@ -23,7 +23,7 @@ loop-event-preserved g c =
     let old = c.args.explainer.now in
     let es = c.args.events.now in
     let here = c.loop-event-test.true in
-    let so_far = ap (λ (x : Explained). x.trees) s.invariant.same in
+    let so_far = ap (λ (x : ExplainerState). x.trees) s.invariant.same in
     record {
       same = absorbed_next old e _ es s.event-index _ here s.invariant.same c.in_ok-put_event.ensures.trees;
       absorbable = rw c.in_ok-put_event.ensures.trees (left_come e.elements e.most_open e.trees es s.event-index _ here s.invariant.absorbable).1;
@@ -35,7 +35,7 @@ returns-in_err-put_event-clause-err g c =
     let p = err_from_is_err_and c.from_residual.result c.from_residual.ensures.1 in
     let s = c.loop-event in
     let old = c.args.explainer.now in
-    let so_far = ap (λ (x : Explained). x.trees) s.invariant.same in
+    let so_far = ap (λ (x : ExplainerState). x.trees) s.invariant.same in
     rw p.1 (begun_there c.args.cycle old.trees c.args.events.now s.event-index _ c.loop-event-test.true s.explainer.trees c.args.lines.now.bytes.items s.lines.bytes.items so_far s.invariant.put _ c.in_err-put_event.ensures.err)
 
 pub returns-in_err-put_event-clause-whole_lines : goal.returns-in_err-put_event-clause-whole_lines
@@ -51,7 +51,7 @@ returns-in_err-put_event-clause-whole_lines g c =
     })
 
 pub put_event-requires-clause-working : goal.put_event-requires-clause-working
-put_event-requires-clause-working g c = ap (λ (x : Explained). x.is_spent) c.loop-event.invariant.same ∙ c.requires.working
+put_event-requires-clause-working g c = ap (λ (x : ExplainerState). x.is_spent) c.loop-event.invariant.same ∙ c.requires.working
 
 pub returns-in_err-put_event-clause-trees : goal.returns-in_err-put_event-clause-trees
 returns-in_err-put_event-clause-trees g c =

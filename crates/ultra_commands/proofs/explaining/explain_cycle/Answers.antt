@@ -2,12 +2,12 @@ use Rattle.std.proofs.Common.{◌≡◌, ℕ, ◌+◌, ◌⊎◌, arith, ap, inl
 use Rattle.std.specs.Prelude.{Result, Ok, Err, IfErr}
 use Rattle.std.proofs.lemmas.Result.{err_from_is_err_and, on_ok_weaker}
 use Rattle.ultra_msg.proofs.Parts.{at_error}
-use Rattle.ultra_msg.proofs.Prefixes.{all_handed_on, more_waits, takes_all}
+use Rattle.ultra_msg.proofs.Prefixes.{all_passed_on, more_waits, takes_all}
 use Rattle.ultra_inputs.specs.Failure.{write_failures}
 use Rattle.ultra_inputs.specs.declared.failure.Failure.{Failure}
 use Rattle.ultra_inputs.specs.declared.failure.Failure.TheVariants.{HeapFull, NoMemory}
 use Rattle.ultra_commands.specs.Explanation.{event_lines, IsCutShort}
-use Rattle.ultra_commands.proofs.Firsts.{at_success, handed_on, put_part, stops_behind}
+use Rattle.ultra_commands.proofs.Firsts.{at_success, passed_on, put_part, stops_behind}
 use Rattle.ultra_commands.proofs.explaining.explain_cycle.Goals as goal
 
 -- lines that memory was refused for end the run, and nothing has failed to be written
@@ -57,18 +57,18 @@ pub returns-in_err-flush-clause-err : goal.returns-in_err-flush-clause-err
 returns-in_err-flush-clause-err g c =
     let p = err_from_is_err_and c.from_residual.result c.from_residual.ensures.1 in
     let put = put_part c.put_lines-explained.result c.put_lines-explained.ensures.ok c.put_lines-explained.ensures.err in
-    rw p.1 (handed_on put c.in_err-flush.ensures.err)
+    rw p.1 (passed_on put c.in_err-flush.ensures.err)
 
 pub returns-in_ok-flush-clause-err : goal.returns-in_ok-flush-clause-err
 returns-in_ok-flush-clause-err g c =
     let put = put_part c.put_lines-explained.result c.put_lines-explained.ensures.ok c.put_lines-explained.ensures.err in
-    at_error c.put_lines-explained.result (handed_on put (takes_all _ c.in_ok-flush.ensures.ok))
+    at_error c.put_lines-explained.result (passed_on put (takes_all _ c.in_ok-flush.ensures.ok))
 
 pub returns-in_ok-flush-clause-ok : goal.returns-in_ok-flush-clause-ok
 returns-in_ok-flush-clause-ok g c =
     let more = event_lines c.args.cycle c.args.explainer.now.trees c.args.events.now in
     at_success c.put_lines-explained.result c.put_lines-explained.ensures.ok
-    (λ put. rw c.in_ok-flush.ensures.empty (all_handed_on more c.args.lines.now.bytes.items (rw put at c.in_ok-flush.ensures.ok)))
+    (λ put. rw c.in_ok-flush.ensures.empty (all_passed_on more c.args.lines.now.bytes.items (rw put at c.in_ok-flush.ensures.ok)))
 
 pub returns-in_ok-flush-clause-full : goal.returns-in_ok-flush-clause-full
 returns-in_ok-flush-clause-full g c =

@@ -1,7 +1,7 @@
 use Rattle.std.proofs.Common.{◌≡◌, ℕ, ◌+◌, ◌++◌, ◌∙◌, arith, inr, ap, append-nil}
 use Rattle.std.specs.Prelude.{Result, Ok, Err, IfErr, OnErr}
 use Rattle.std.proofs.lemmas.Result.{err_from_is_err_and, IfErr-weaker, on_ok_weaker, on_err_weaker}
-use Rattle.ultra_msg.proofs.Prefixes.{rest_cut, rest_handed_on}
+use Rattle.ultra_msg.proofs.Prefixes.{rest_cut, rest_passed_on}
 use Rattle.ultra_inputs.specs.Failure.{write_failures}
 use Rattle.ultra_inputs.specs.declared.failure.Failure.{Failure}
 use Rattle.ultra_inputs.specs.declared.failure.Failure.TheVariants.{NotWritten}
@@ -46,7 +46,7 @@ returns-in_err-explain_cycles-clause-counted g c =
 pub returns-clause-ok : goal.returns-clause-ok
 returns-clause-ok g c =
     let before = rw c.new-lines.ensures at c.in_ok-explain_cycles.ensures.ok in
-    on_ok_weaker c.flush.result (λ handed. rest_handed_on before handed) c.flush.ensures.ok
+    on_ok_weaker c.flush.result (λ handed. rest_passed_on before handed) c.flush.ensures.ok
 
 pub returns-clause-err : goal.returns-clause-err
 returns-clause-err g c =

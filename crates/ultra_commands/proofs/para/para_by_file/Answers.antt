@@ -19,4 +19,4 @@ pub returns-clause-err : goal.returns-clause-err
 returns-clause-err g c =
     let a = c.in_ok-inputs in
     let begun = rw c.as_slice.ensures.value at c.in-Err.ensures.err in
-    stopped a.inputs.config a.inputs.program a.steps a.ensures.ok c.failure_of_stop.ensures.stopped begun
+    stopped a.inputs.config a.inputs.program a.steps a.ensures.ok c.failure_of_run_alone.ensures.stopped begun

@@ -4,9 +4,9 @@ use Rattle.std.proofs.lemmas.Result.{err_from_is_err_and}
 use Rattle.ultra_msg.proofs.Parts.{at_error}
 use Rattle.ultra_msg.proofs.Prefixes.{takes_none}
 use Rattle.ultra_serial_law.specs.SerialList.{serial_list}
-use Rattle.ultra_serial.specs.Ordered.{Ordered, whole}
+use Rattle.ultra_serial.specs.OrderedRunState.{OrderedRunState, whole_list}
 use Rattle.ultra_commands.specs.Order.{order_of, order_text}
-use Rattle.ultra_commands.proofs.LastCycle.{whole_list}
+use Rattle.ultra_commands.proofs.LastCycle.{list_of_all_cycles}
 use Rattle.ultra_commands.proofs.serial_order.order_run.Goals as goal
 
 pub returns-in_err-run-clause-ok : goal.returns-in_err-run-clause-ok
@@ -26,16 +26,16 @@ pub returns-clause-ok : goal.returns-clause-ok
 returns-clause-ok g c =
     let config = c.args.config.now in
     let program = c.args.program.now in
-    let lines : order_text (whole c.in_ok-run.run') ≡ order_of config program =
-    ap (λ (r : Ordered). order_text (whole r)) c.in_ok-run.ensures ∙ (ap (λ n. order_text (serial_list config program n)) c.cycles.ensures.value ∙ sym (ap order_text (whole_list config program))) in
+    let lines : order_text (whole_list c.in_ok-run.run') ≡ order_of config program =
+    ap (λ (r : OrderedRunState). order_text (whole_list r)) c.in_ok-run.ensures ∙ (ap (λ n. order_text (serial_list config program n)) c.cycles.ensures.value ∙ sym (ap order_text (list_of_all_cycles config program))) in
     rw lines at c.write_order.ensures.ok
 
 pub returns-clause-err : goal.returns-clause-err
 returns-clause-err g c =
     let config = c.args.config.now in
     let program = c.args.program.now in
-    let lines : order_text (whole c.in_ok-run.run') ≡ order_of config program =
-    ap (λ (r : Ordered). order_text (whole r)) c.in_ok-run.ensures ∙ (ap (λ n. order_text (serial_list config program n)) c.cycles.ensures.value ∙ sym (ap order_text (whole_list config program))) in
+    let lines : order_text (whole_list c.in_ok-run.run') ≡ order_of config program =
+    ap (λ (r : OrderedRunState). order_text (whole_list r)) c.in_ok-run.ensures ∙ (ap (λ n. order_text (serial_list config program n)) c.cycles.ensures.value ∙ sym (ap order_text (list_of_all_cycles config program))) in
     rw lines at c.write_order.ensures.err
 
 pub returns-clause-stopped : goal.returns-clause-stopped

@@ -3,7 +3,7 @@ use Rattle.std.proofs.Common.{rules, inl, inr, refl}
 use Rattle.std.proofs.lemmas.Result.{err_from_is_err_and}
 use Rattle.ultra_msg.proofs.Parts.{at_error}
 use Rattle.ultra_io.proofs.Writing.{finished, part_taken}
-use Rattle.ultra_serial.specs.Ordered.{whole}
+use Rattle.ultra_serial.specs.OrderedRunState.{whole_list}
 use Rattle.ultra_commands.specs.Order.{order_text}
 use Rattle.ultra_commands.proofs.serial_order.write_order.Goals as goal
 
@@ -18,7 +18,7 @@ returns-in_err-put_order-clause-ok g c =
 pub returns-in_err-put_order-clause-err : goal.returns-in_err-put_order-clause-err
 returns-in_err-put_order-clause-err g c =
     let (part, begins, writes) = c.in_err-put_order.ensures.err in
-    let taken = part_taken part (order_text (whole c.args.run.now)) _ _ c.new-buffer.ensures.blank.empty c.in_err-put_order.ensures.sound begins writes.wrote in
+    let taken = part_taken part (order_text (whole_list c.args.run.now)) _ _ c.new-buffer.ensures.blank.empty c.in_err-put_order.ensures.sound begins writes.wrote in
     at_error c.from_residual.result (search rules)
 
 pub returns-in_err-put_order-clause-stopped : goal.returns-in_err-put_order-clause-stopped

@@ -2,7 +2,7 @@ use Rattle.std.specs.Prelude.{slice_index_or}
 use Rattle.ultra_io.specs.TextBuffer.{Writes}
 use Rattle.ultra_isa.specs.Step.{fresh_core}
 use Rattle.ultra_model.specs.Trace.{by_number, pe_line}
-use Rattle.ultra_para.specs.Programmed.{cores_of}
+use Rattle.ultra_para.specs.ParaState.{cores_of}
 use Rattle.ultra_para_run.proofs.ending.put_processors.Given as goal
 
 abbrev pub invariant-loop-pe : goal.invariant-loop-pe

@@ -3,7 +3,7 @@ use Rattle.std.proofs.lemmas.List.{length_push}
 use Rattle.ultra_io.specs.TextBuffer.{Writes}
 use Rattle.ultra_model.specs.Machine.{size}
 use Rattle.ultra_para.specs.Report.{have_all_stopped}
-use Rattle.ultra_para.specs.Programmed.{Programmed}
+use Rattle.ultra_para.specs.ParaState.{ParaState}
 use Rattle.ultra_para_run.specs.ParaText.{after_steps, steps_text, unless_only_end}
 use Rattle.ultra_para_run.specs.SeededSchedule.{drawn_from}
 use Rattle.ultra_para_run.specs.Steps.{HasMade}
@@ -20,7 +20,7 @@ returns-then-have_all_stopped-clause-writes g c =
     let most = c.args.most in
     let inv = c.loop-made.invariant in
     let ps = inv.steps in
-    let stopped : have_all_stopped (after_steps s program ps) ≡ true = ap (λ (m : Programmed). have_all_stopped m.state) (sym inv.made.state) ∙ sym c.if-have_all_stopped.ensures in
+    let stopped : have_all_stopped (after_steps s program ps) ≡ true = ap (λ (m : ParaState). have_all_stopped m.state) (sym inv.made.state) ∙ sym c.if-have_all_stopped.ensures in
     let is = drawn_stopped s program seed most ps (most - c.loop-made.made) c.loop-made.x inv.drawn stopped in
     subst (λ qs. Writes g.S.Sink.taken g.S.Sink.failures (unless_only_end c.args.only_end (steps_text s program qs)) c.args.buffer.now c.loop-made.buffer) (sym is) inv.writes
 
@@ -32,7 +32,7 @@ returns-then-have_all_stopped-clause-made g c = λ sound.
     let most = c.args.most in
     let inv = c.loop-made.invariant in
     let ps = inv.steps in
-    let stopped : have_all_stopped (after_steps s program ps) ≡ true = ap (λ (m : Programmed). have_all_stopped m.state) (sym inv.made.state) ∙ sym c.if-have_all_stopped.ensures in
+    let stopped : have_all_stopped (after_steps s program ps) ≡ true = ap (λ (m : ParaState). have_all_stopped m.state) (sym inv.made.state) ∙ sym c.if-have_all_stopped.ensures in
     let is = drawn_stopped s program seed most ps (most - c.loop-made.made) c.loop-made.x inv.drawn stopped in
     subst (λ qs. HasMade s program qs c.loop-made.run) (sym is) inv.made
 
@@ -44,7 +44,7 @@ returns-then-have_all_stopped-clause-count g c = λ sound.
     let most = c.args.most in
     let inv = c.loop-made.invariant in
     let ps = inv.steps in
-    let stopped : have_all_stopped (after_steps s program ps) ≡ true = ap (λ (m : Programmed). have_all_stopped m.state) (sym inv.made.state) ∙ sym c.if-have_all_stopped.ensures in
+    let stopped : have_all_stopped (after_steps s program ps) ≡ true = ap (λ (m : ParaState). have_all_stopped m.state) (sym inv.made.state) ∙ sym c.if-have_all_stopped.ensures in
     let is = drawn_stopped s program seed most ps (most - c.loop-made.made) c.loop-made.x inv.drawn stopped in
     sym inv.count ∙ ap length (sym is)
 
@@ -72,7 +72,7 @@ returns-then-has_failed-clause-writes g c =
     let inv = c.loop-made.invariant in
     let ps = inv.steps in
     let pe = c.highest_bits.result in
-    let running : have_all_stopped (after_steps s program ps) ≡ false = ap (λ (m : Programmed). have_all_stopped m.state) (sym inv.made.state) ∙ sym c.if-have_all_stopped.ensures in
+    let running : have_all_stopped (after_steps s program ps) ≡ false = ap (λ (m : ParaState). have_all_stopped m.state) (sym inv.made.state) ∙ sym c.if-have_all_stopped.ensures in
     let next = drawn_next s program seed most ps c.loop-made.made c.loop-made.x c.next_number-x.result pe c.args.stages c.loop-made-test.true inv.drawn running c.next_number-x.ensures c.requires.stages c.highest_bits.ensures.value in
     let written = step_written s program c.args.only_end ps pe inv.writes (c.put_step.ensures.writes s program ps inv.made) in
     let rest = drawn_from s program (most - (c.loop-made.made + 1)) (after_steps s program (ps ++ pe ∷ [])) c.next_number-x.result in
@@ -88,7 +88,7 @@ loop-made-preserved g c =
     let inv = c.loop-made.invariant in
     let ps = inv.steps in
     let pe = c.highest_bits.result in
-    let running : have_all_stopped (after_steps s program ps) ≡ false = ap (λ (m : Programmed). have_all_stopped m.state) (sym inv.made.state) ∙ sym c.if-have_all_stopped.ensures in
+    let running : have_all_stopped (after_steps s program ps) ≡ false = ap (λ (m : ParaState). have_all_stopped m.state) (sym inv.made.state) ∙ sym c.if-have_all_stopped.ensures in
     let next = drawn_next s program seed most ps c.loop-made.made c.loop-made.x c.next_number-x.result pe c.args.stages c.loop-made-test.true inv.drawn running c.next_number-x.ensures c.requires.stages c.highest_bits.ensures.value in
     let written = step_written s program c.args.only_end ps pe inv.writes (c.put_step.ensures.writes s program ps inv.made) in
     record {

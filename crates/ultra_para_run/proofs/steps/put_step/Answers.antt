@@ -1,14 +1,14 @@
 use Rattle.std.proofs.Common.{◌≡◌, ◌+◌, ◌<◌, ap, subst, length, rules}
 use Rattle.std.specs.Prelude.{slice_index, slice_set}
 use Rattle.ultra_model.specs.Machine.{size}
-use Rattle.ultra_para.specs.Programmed.{Programmed}
+use Rattle.ultra_para.specs.ParaState.{ParaState}
 use Rattle.ultra_para_run.proofs.Made.{line_here, made_more}
 use Rattle.ultra_para_run.proofs.steps.put_step.Goals as goal
 
 pub returns-then-not-only_end-clause-writes : goal.returns-then-not-only_end-clause-writes
 returns-then-not-only_end-clause-writes g c = λ s program ps made.
     let run = c.args.run.now in
-    let few : c.args.pe < size s = subst (λ (m : Programmed). c.args.pe < size m.settings) made.state c.requires.there in
+    let few : c.args.pe < size s = subst (λ (m : ParaState). c.args.pe < size m.settings) made.state c.requires.there in
     let line = line_here s program ps c.args.pe c.requires.few run run made c.observed_step-report.result c.observed_step-report.ensures.report few in
     rw c.if-not-only_end.true (rw line at c.put_report.ensures)
 

@@ -5,12 +5,12 @@ use Rattle.ultra_partition.proofs.moving.exchange.Goals as goal
 pub loop-unit-preserved : goal.loop-unit-preserved
 loop-unit-preserved c =
     let known = c.loop-unit.invariant in
-    let kept = c.move_home.ensures.kept in
+    let kept = c.move_messages.ensures.kept in
     record {
       within = omega (arith, c.in-Some.ensures.some.within);
-      only = both_moved _ _ _ _ known.only c.move_home.ensures.only;
+      only = both_moved _ _ _ _ known.only c.move_messages.ensures.only;
       there = λ k before n small. kept k n (known.there k before n small);
-      gone = below_more _ _ (λ n before small. kept c.loop-from.from n (gone_until c.args.kind _ _ _ _ _ _ _ _ known.only c.requires.cut (omega arith) c.in-Some.ensures.some.between known.gone n before small)) (rw c.requires.cut.count at c.move_home.ensures.gone);
+      gone = below_more _ _ (λ n before small. kept c.loop-from.from n (gone_until c.args.kind _ _ _ _ _ _ _ _ known.only c.requires.cut (omega arith) c.in-Some.ensures.some.between known.gone n before small)) (rw c.requires.cut.count at c.move_messages.ensures.gone);
     }
 
 pub loop-from-preserved : goal.loop-from-preserved

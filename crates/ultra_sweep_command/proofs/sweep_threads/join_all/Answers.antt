@@ -2,7 +2,7 @@ use Rattle.std.proofs.Common.{◌≡◌, ◌+◌, ℕ, List, ◌∷◌, [], ◌+
 use Rattle.std.specs.Prelude.{All, IfOk, Result}
 use Rattle.std.proofs.lemmas.Result.{IfOk-weaker}
 use Rattle.std.proofs.lemmas.List.Elements.{All-head, All-rest}
-use Rattle.ultra_board.specs.Seat.{Opened}
+use Rattle.ultra_board.specs.Seat.{BoardState}
 use Rattle.ultra_args.specs.declared.sweep_output.SweepOutput.{SweepOutput}
 use Rattle.ultra_sweep.specs.declared.job.Job.{Job}
 use Rattle.ultra_sweep_command.specs.declared.seat_results.SeatResults.{SeatResults}
@@ -11,7 +11,7 @@ use Rattle.ultra_sweep_command.proofs.sweep_threads.join_all.Goals as goal
 use Rattle.ultra_sweep_command.proofs.sweep_threads.join_all.Goals.{in-Ok, in-Err}
 
 -- the results of the seats so far, with one more
-next : {E : Type 0} (output : SweepOutput) (board : Opened) (jobs : List Job) (k m : ℕ) (own other : SeatResults) (sum : Result SeatResults E) → IfOk sum (λ all. (o : SweepOutput) (js : List Job) (n : ℕ) → AreWholeResults o board js n own → AreSeatResults o board js 1 other → AreWholeResults o board js (n + 1) all) → AreWholeResults output board jobs k own → AreSeatResults output board jobs 1 other → k + 1 ≡ m → IfOk sum (AreWholeResults output board jobs m)
+next : {E : Type 0} (output : SweepOutput) (board : BoardState) (jobs : List Job) (k m : ℕ) (own other : SeatResults) (sum : Result SeatResults E) → IfOk sum (λ all. (o : SweepOutput) (js : List Job) (n : ℕ) → AreWholeResults o board js n own → AreSeatResults o board js 1 other → AreWholeResults o board js (n + 1) all) → AreWholeResults output board jobs k own → AreSeatResults output board jobs 1 other → k + 1 ≡ m → IfOk sum (AreWholeResults output board jobs m)
 next output board jobs k m own other sum joined before part more =
     IfOk-weaker sum _ (AreWholeResults output board jobs m) (λ all h. subst (λ n. AreWholeResults output board jobs n all) more (h output jobs k before part)) joined
 

@@ -12,4 +12,4 @@ make_cycle-requires-clause-settled g c h w =
     grind (arith, cycles_are)
 
 pub returns-clause-expected : goal.returns-clause-expected
-returns-clause-expected g c = expected_goes_on g.J.ExpectedResults.results g.J.ExpectedResults.program c.args.self.now c.args.blocks c.requires.expected c.of_parts.result (grind arith)
+returns-clause-expected g c = expected_goes_on g.J.ExpectedResults.results g.J.ExpectedResults.program c.args.self.now c.args.blocks c.requires.expected c.from_parts.result (grind arith)

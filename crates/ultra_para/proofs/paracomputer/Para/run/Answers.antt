@@ -1,6 +1,6 @@
 use Rattle.std.proofs.Common.{◌∙◌, ap, sym, get_or}
 use Rattle.ultra_para.specs.Para.{Para, para_step}
-use Rattle.ultra_para.specs.Programmed.{Programmed}
+use Rattle.ultra_para.specs.ParaState.{ParaState}
 use Rattle.ultra_para.proofs.Schedules.{run-take}
 use Rattle.ultra_para.proofs.paracomputer.Para.run.Goals as goal
 
@@ -11,5 +11,5 @@ loop-pe-preserved c =
     let k = c.loop-pe.pe-index in
     let pe = get_or schedule k 0 in
     c.step.ensures
-    ∙ (ap (λ (n : Programmed). record n { state = para_step n.settings n.program n.state pe }) c.loop-pe.invariant
+    ∙ (ap (λ (n : ParaState). record n { state = para_step n.settings n.program n.state pe }) c.loop-pe.invariant
     ∙ ap (λ (v : Para). record m { state = v }) (sym (run-take m.settings m.program schedule k 0 m.state c.loop-pe-test.true)))

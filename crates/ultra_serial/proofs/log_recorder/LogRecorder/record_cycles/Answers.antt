@@ -1,5 +1,5 @@
 use Rattle.std.proofs.Common.{◌≡◌, ◌+◌, inl, inr, true, rules, arith, sym, ap, subst, ◌∙◌}
-use Rattle.ultra_machine.specs.Running.{Running}
+use Rattle.ultra_machine.specs.MachineState.{MachineState}
 use Rattle.ultra_model.specs.Machine.{is_quiet}
 use Rattle.ultra_serial_law.specs.Log.{Log}
 use Rattle.ultra_serial_law.specs.SerialList.{History, history}
@@ -20,7 +20,7 @@ loop-cycle-init c =
 pub cycle-requires : goal.cycle-requires
 cycle-requires c =
     let m = c.args.machine.now in
-    let done = ap (λ (r : Running). r.state.cycles) c.loop-cycle.invariant.machine ∙ cycles_after m.settings m.program c.loop-cycle.cycle in
+    let done = ap (λ (r : MachineState). r.state.cycles) c.loop-cycle.invariant.machine ∙ cycles_after m.settings m.program c.loop-cycle.cycle in
     omega (arith, done)
 
 pub loop-cycle-preserved : goal.loop-cycle-preserved
@@ -29,7 +29,7 @@ loop-cycle-preserved c =
     let p = c.args.machine.now.program in
     let n = c.loop-cycle.cycle in
     let now = running_next v p c.loop-cycle.machine c.cycle.new.self n c.loop-cycle.invariant.machine c.cycle.ensures in
-    let events = c.events.ensures ∙ ap (λ (r : Running). r.state.events) now in
+    let events = c.events.ensures ∙ ap (λ (r : MachineState). r.state.events) now in
     let es = c.events.result.now in
     let log = ap (λ (h : History). h.log) (history_next v p n es events) ∙ noted_log n es (history v p n) in
     record {
@@ -43,10 +43,10 @@ returns-then-is_quiet-clause-log c =
     let p = c.args.machine.now.program in
     let n = c.loop-cycle.cycle in
     let now = running_next v p c.loop-cycle.machine c.cycle.new.self n c.loop-cycle.invariant.machine c.cycle.ensures in
-    let events = c.events.ensures ∙ ap (λ (r : Running). r.state.events) now in
+    let events = c.events.ensures ∙ ap (λ (r : MachineState). r.state.events) now in
     let es = c.events.result.now in
     let found : is_quiet c.cycle.new.self.state ≡ true = search rules in
-    let quiet = sym (ap (λ (r : Running). is_quiet r.state) now) ∙ found in
+    let quiet = sym (ap (λ (r : MachineState). is_quiet r.state) now) ∙ found in
     let all = sym (history_next v p n es events) ∙ quiet_history v p (n + 1) c.args.cycles (omega arith) quiet in
     let log = sym (noted_log n es (history v p n)) ∙ ap (λ (h : History). h.log) all in
     subst (λ (l : Log). Records c.note_all.new.self l) log (c.in_ok-note_all.ensures (history v p n).log c.loop-cycle.invariant.recording)
@@ -64,7 +64,7 @@ returns-then-is_quiet-clause-machine c =
     let n = c.loop-cycle.cycle in
     let now = running_next v p c.loop-cycle.machine c.cycle.new.self n c.loop-cycle.invariant.machine c.cycle.ensures in
     let found : is_quiet c.cycle.new.self.state ≡ true = search rules in
-    has_run v p c.args.cycles (n + 1) c.cycle.new.self now (inr (omega arith, sym (ap (λ (r : Running). is_quiet r.state) now) ∙ found))
+    has_run v p c.args.cycles (n + 1) c.cycle.new.self now (inr (omega arith, sym (ap (λ (r : MachineState). is_quiet r.state) now) ∙ found))
 
 pub returns-after-loop-cycle-clause-machine : goal.returns-after-loop-cycle-clause-machine
 returns-after-loop-cycle-clause-machine c =

@@ -1,12 +1,12 @@
 use Rattle.std.proofs.Common.{◌≡◌, ◌∙◌, ◌<◌, ◌+◌, ◌-◌, ℕ, ◌∷◌, [], ap, sym, subst, length, arith, length-append}
 use Rattle.std.specs.Prelude.{All}
 use Rattle.std.proofs.lemmas.List.Elements.{All-push}
-use Rattle.ultra_board.specs.Seat.{Opened, Seated}
+use Rattle.ultra_board.specs.Seat.{BoardState, SeatState}
 use Rattle.ultra_sweep_command.specs.SeatResults.{IsFresh}
 use Rattle.ultra_sweep_command.proofs.sweep_threads.SweepThreads.start.Goals as goal
 
 -- what is left of a seat of n places, when some of them are still to be split off
-fresh-rest : (board : Opened) (n k count : ℕ) (seat rest : Seated) → n + k ≡ count + 1 → k < count → IsFresh board n seat → ((m : ℕ) → IsFresh board (m + 1) seat → IsFresh board m rest) → IsFresh board (n - 1) rest
+fresh-rest : (board : BoardState) (n k count : ℕ) (seat rest : SeatState) → n + k ≡ count + 1 → k < count → IsFresh board n seat → ((m : ℕ) → IsFresh board (m + 1) seat → IsFresh board m rest) → IsFresh board (n - 1) rest
 fresh-rest board n k count seat rest left more fresh split =
     let one_more : n ≡ n - 1 + 1 = omega arith in
     split (n - 1) (subst (λ m. IsFresh board m seat) one_more fresh)

@@ -2,7 +2,7 @@ use Rattle.std.proofs.Common.{◌≡◌, ◌∷◌, length, set, ap, subst, sym,
 use Rattle.std.proofs.lemmas.Option.{slice_get_within}
 use Rattle.ultra_serial_law.specs.Tree.{kept, tree_of}
 use Rattle.ultra_serial_law.specs.Explicable.{held_by}
-use Rattle.ultra_tree.specs.Absorb.{Explained, AreWithin}
+use Rattle.ultra_tree.specs.Absorb.{ExplainerState, AreWithin}
 use Rattle.ultra_tree.specs.Seen.{seen}
 use Rattle.ultra_tree.specs.Slots.{AreSlotsOf, IsFreePlace, trees_of}
 use Rattle.ultra_tree.specs.declared.slots.Slot.TheVariants.{Free, Held}
@@ -13,7 +13,7 @@ use Rattle.ultra_tree.proofs.explaining.Explainer.put.Goals as goal
 
 pub free_place-place-requires-clause-within : goal.free_place-place-requires-clause-within
 free_place-place-requires-clause-within g c =
-    let n = ap (λ (v : Explained). v.elements) c.self.view_is in
+    let n = ap (λ (v : ExplainerState). v.elements) c.self.view_is in
     let within = row_within c.self.inside.elements c.self.inside.most_open c.args.pe (omega (arith, n, c.requires.element)) in
     let all = ap (λ ss. length ss) c.as_slice.ensures.value in
     omega (arith, within, all, c.self.invariant.2.size)
@@ -33,10 +33,10 @@ invariant_of-self g c =
     let ss = c.self.inside.slots.items in
     let ks = trees_of c.self.inside.order in
     let i = c.free_place-place.result in
-    let of_pes = ap (λ (v : Explained). v.elements) c.self.view_is in
-    let most = ap (λ (v : Explained). v.most_open) c.self.view_is in
-    let held = ap (λ (v : Explained). held_by p v.trees) c.self.view_is in
-    let none = ap (λ (v : Explained). tree_of p a v.trees) c.self.view_is ∙ c.requires.free in
+    let of_pes = ap (λ (v : ExplainerState). v.elements) c.self.view_is in
+    let most = ap (λ (v : ExplainerState). v.most_open) c.self.view_is in
+    let held = ap (λ (v : ExplainerState). held_by p v.trees) c.self.view_is in
+    let none = ap (λ (v : ExplainerState). tree_of p a v.trees) c.self.view_is ∙ c.requires.free in
     let at = subst (λ us. IsFreePlace m p us i) c.as_slice.ensures.value c.free_place-place.ensures in
     let trees : (kept c.of-2.result.value c.of-3.result.value (seen c.of-3.result.value c.of-4.result.value) ∷ trees_of c.of.result.value) ≡ (kept p a (seen a c.args.tree) ∷ ks) = cc in
     let within = within_more n m p a (seen a c.args.tree) ks c.self.invariant.1 (omega (arith, of_pes, c.requires.element)) (omega (arith, most, held, c.requires.room)) in (

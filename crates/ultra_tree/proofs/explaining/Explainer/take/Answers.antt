@@ -4,7 +4,7 @@ use Rattle.std.proofs.lemmas.Bool.{false≢true}
 use Rattle.std.proofs.lemmas.Option.{slice_get_within, get_or_from_slice_get}
 use Rattle.ultra_serial_law.specs.Tree.{tree_of, without}
 use Rattle.ultra_serial_law.specs.Explicable.{held_by}
-use Rattle.ultra_tree.specs.Absorb.{Explained, AreWithin}
+use Rattle.ultra_tree.specs.Absorb.{ExplainerState, AreWithin}
 use Rattle.ultra_tree.specs.Seen.{seen}
 use Rattle.ultra_tree.specs.Slots.{AreSlotsOf, IsFirstFor, trees_of}
 use Rattle.ultra_tree.specs.declared.slots.Slot.TheVariants.{Held}
@@ -19,7 +19,7 @@ unreachable-requires g c =
     let ks = trees_of c.self.inside.order in
     let are = subst (λ ss. AreSlotsOf n m ss ks) (sym c.as_slice.ensures.value) c.self.invariant.2 in
     let none = tree_missed n m c.args.pe c.args.cell c.as_slice.result.now ks are c.in_default.ensures.none in
-    let t = ap (λ (v : Explained). tree_of c.args.pe c.args.cell v.trees) c.self.view_is in
+    let t = ap (λ (v : ExplainerState). tree_of c.args.pe c.args.cell v.trees) c.self.view_is in
     false≢true (ap is_some (sym none ∙ t) ∙ c.requires)
 
 pub index_mut-requires : goal.index_mut-requires
@@ -64,12 +64,12 @@ returns-clause-tree g c =
     let same : c.in-Held.tree ≡ at.tree = cc is in
     ap (λ t. Some (seen c.args.cell t)) same
     ∙ (sym (tree_found n m c.args.pe c.args.cell ss ks c.in-Some.place c.self.invariant.2 at)
-    ∙ ap (λ (v : Explained). tree_of c.args.pe c.args.cell v.trees) c.self.view_is)
+    ∙ ap (λ (v : ExplainerState). tree_of c.args.pe c.args.cell v.trees) c.self.view_is)
 
 pub returns-clause-element : goal.returns-clause-element
 returns-clause-element g c =
-    let n = ap (λ (v : Explained). v.elements) c.self.view_is in
-    let s = subst (λ (v : Explained). IsSome (tree_of c.args.pe c.args.cell v.trees)) (sym c.self.view_is) c.requires in
+    let n = ap (λ (v : ExplainerState). v.elements) c.self.view_is in
+    let s = subst (λ (v : ExplainerState). IsSome (tree_of c.args.pe c.args.cell v.trees)) (sym c.self.view_is) c.requires in
     omega (arith, n, element_of c.self.inside.elements c.args.pe c.args.cell (trees_of c.self.inside.order) c.self.invariant.1.elements s)
 
 pub returns-clause-room : goal.returns-clause-room
@@ -77,8 +77,8 @@ returns-clause-room g c =
     let p = c.args.pe in
     let a = c.args.cell in
     let ks = trees_of c.self.inside.order in
-    let m = ap (λ (v : Explained). v.most_open) c.self.view_is in
-    let s = subst (λ (v : Explained). IsSome (tree_of p a v.trees)) (sym c.self.view_is) c.requires in
+    let m = ap (λ (v : ExplainerState). v.most_open) c.self.view_is in
+    let s = subst (λ (v : ExplainerState). IsSome (tree_of p a v.trees)) (sym c.self.view_is) c.requires in
     let trees : without c.of-2.result.value c.of-3.result.value (trees_of c.of.result.value) ≡ without p a ks = cc in
     let t = ap (λ us. held_by p us) trees in
     omega (arith, m, t, one_fewer p a ks s, c.self.invariant.1.few p)

@@ -1,7 +1,7 @@
 use Rattle.std.proofs.Common.{◌≡◌, ap, subst, sym, ◌∙◌, arith, Some}
 use Rattle.std.proofs.lemmas.Option.{slice_get_within, get_or_from_slice_get}
 use Rattle.ultra_serial_law.specs.Tree.{tree_of}
-use Rattle.ultra_tree.specs.Absorb.{Explained}
+use Rattle.ultra_tree.specs.Absorb.{ExplainerState}
 use Rattle.ultra_tree.specs.Seen.{seen}
 use Rattle.ultra_tree.specs.Slots.{AreSlotsOf, IsFirstFor, trees_of}
 use Rattle.ultra_tree.specs.declared.slots.Slot.TheVariants.{Held}
@@ -15,7 +15,7 @@ returns-in_err-place g c =
     let ks = trees_of c.self.inside.order in
     let are = subst (λ ss. AreSlotsOf n m ss ks) (sym c.as_slice.ensures.value) c.self.invariant.2 in
     let none = tree_missed n m c.args.pe c.args.cell c.as_slice.result.now ks are c.in_err-place.ensures.none in
-    rw c.from_residual.ensures (sym none ∙ ap (λ (v : Explained). tree_of c.args.pe c.args.cell v.trees) c.self.view_is)
+    rw c.from_residual.ensures (sym none ∙ ap (λ (v : ExplainerState). tree_of c.args.pe c.args.cell v.trees) c.self.view_is)
 
 pub index-requires : goal.index-requires
 index-requires g c =
@@ -42,4 +42,4 @@ returns-in-Held g c =
     let same : c.in-Held.tree ≡ at.tree = cc is in
     ap (λ t. Some (seen c.args.cell t)) same
     ∙ (sym (tree_found n m c.args.pe c.args.cell ss ks c.in_ok-place.place c.self.invariant.2 at)
-    ∙ ap (λ (v : Explained). tree_of c.args.pe c.args.cell v.trees) c.self.view_is)
+    ∙ ap (λ (v : ExplainerState). tree_of c.args.pe c.args.cell v.trees) c.self.view_is)

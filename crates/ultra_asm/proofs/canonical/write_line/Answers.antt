@@ -1,7 +1,0 @@
-use Rattle.ultra_io.proofs.Writing.{◌then◌}
-use Rattle.ultra_asm.proofs.canonical.write_line.Goals as goal
-
-pub returns : goal.returns
-returns g c =
-    let word = rw c.word.ensures at c.put.ensures in
-    word then (c.write_operands.ensures then c.put-2.ensures)

@@ -1,0 +1,5 @@
+use Rattle.ultra_requests.proofs.Alongs.{IsAlong}
+use Rattle.ultra_requests.proofs.cycle.note_unwritten_events.Given as goal
+
+abbrev pub invariant-loop-event : goal.invariant-loop-event
+invariant-loop-event l = IsAlong l.cycle l.initial.table.rows.items l.events l.event-index l.table.rows.items
