@@ -3,6 +3,7 @@
 ghost use Rattle.std.specs.Prelude.{◌<◌, All};
 ghost use Rattle.ultra_model.specs.Machine.{size};
 
+use crate::equal::check_equal;
 use std::alloc::Global;
 use std::process::Abort;
 use std::test::Fail;
@@ -70,7 +71,7 @@ pub(crate) fn check_refused<T: Drop>(
     match answer {
         Ok(_) => Err("accepted".into()),
         Err(fault) => {
-            assert_eq!(rt; fault, ColibFault::BadParameter);
+            check_equal(rt, fault, ColibFault::BadParameter);
             Ok(())
         }
     }

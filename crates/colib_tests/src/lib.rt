@@ -4,6 +4,8 @@
 #[cfg(test)]
 mod cases;
 #[cfg(test)]
+mod equal;
+#[cfg(test)]
 mod listings;
 #[cfg(test)]
 mod runs;

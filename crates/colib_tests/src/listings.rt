@@ -1,17 +1,25 @@
 //! The listings of the coordination programs at the ends of the ranges of their parameters.
 
 use crate::cases::{Case, OUT_OF_RANGE, check_refused};
+use crate::equal::check_equal;
+use std::alloc::Global;
 use std::process::Abort;
 use std::test::Fail;
 use test_sinks::{MemorySink, SinkLimits};
 use ultra_asm::listing;
+use ultra_isa::Program;
+
+/// The listing of a program, in a sink that takes three bytes at a time.
+pub(crate) fn listing_of(alloc: Global, program: &Program) -> Result<MemorySink, Fail> {
+    let mut sink = MemorySink::with_limits(alloc, SinkLimits::taking_at_most(3))?;
+    listing(program, &mut sink)?;
+    Ok(sink)
+}
 
 /// Asserts that a program has this listing.
 fn check_listing<R: AllocGlobal + Abort>(rt: &R, case: Case, wanted: &str) -> Result<(), Fail> {
-    let program = case.program(rt.alloc())?;
-    let mut sink = MemorySink::with_limits(rt.alloc(), SinkLimits::taking_at_most(3))?;
-    listing(&program, &mut sink)?;
-    assert_eq!(rt; sink.text()?, wanted);
+    let sink = listing_of(rt.alloc(), &case.program(rt.alloc())?)?;
+    check_equal(rt, sink.text()?, wanted);
     Ok(())
 }
 

@@ -3,9 +3,11 @@
 ghost use Rattle.std.specs.Prelude.{◌<◌, ◌↔◌, All, IsTrue};
 
 use crate::cases::{Case, OUT_OF_RANGE, SMALL, check_refused};
+use crate::equal::check_equal_for;
 use std::alloc::{AllocError, Global};
 use std::process::Abort;
 use std::test::Fail;
+use ultra_isa::Program;
 use ultra_model::{Config, RawSettings};
 use ultra_msg::{Cell, Pe, Word};
 use ultra_para::Para;
@@ -28,7 +30,12 @@ pub(crate) fn config(alloc: Global, initial: &[(i64, i64)]) -> Result<Config, Fa
 /// Asserts what these cells of a paracomputer hold.
 pub(crate) fn check_cells(rt: &impl Abort, para: &Para, wanted: &[(Cell, Word)]) {
     for &(cell, word) in wanted {
-        assert_eq!(rt; para.peek(cell), Some(word), "in cell {cell}");
+        check_equal_for(
+            rt,
+            para.peek(cell),
+            Some(word),
+            format_args!("in cell {cell}"),
+        );
     }
 }
 
@@ -58,6 +65,20 @@ pub(crate) fn schedule(alloc: Global, turns: &[(Pe, usize)]) -> Result<Vec<Pe>, 
         }
     }
     Ok(schedule)
+}
+
+/// The paracomputer of a program after a schedule.
+pub(crate) fn run_program<R: AllocGlobal + Abort>(
+    rt: &R,
+    program: &Program,
+    turns: &[(Pe, usize)],
+) -> Result<Para, Fail> {
+    let config = config(rt.alloc(), &[])?;
+    let schedule = schedule(rt.alloc(), turns)?;
+    assert!(rt; is_schedule(schedule.as_slice(), config.net().size()));
+    let mut para = Para::new(rt.alloc(), &config, program)?;
+    para.run(schedule.as_slice());
+    Ok(para)
 }
 
 /// A coordination program, a schedule, and what cells hold after it.

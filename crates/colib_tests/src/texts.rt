@@ -1,5 +1,7 @@
 //! Texts of programs, with their listings and their faults.
 
+use crate::equal::{check_equal, check_equal_for};
+use crate::listings::listing_of;
 use std::alloc::{AllocError, Global};
 use std::process::Abort;
 use std::test::Fail;
@@ -9,9 +11,8 @@ use ultra_msg::SinkFault;
 
 /// Asserts that the text is assembled to a program with this listing.
 fn lists_as<R: AllocGlobal + Abort>(rt: &R, text: &str, wanted: &str) -> Result<(), Fail> {
-    let mut sink = MemorySink::with_limits(rt.alloc(), SinkLimits::taking_at_most(3))?;
-    listing(&assemble(rt.alloc(), text)?, &mut sink)?;
-    assert_eq!(rt; sink.text()?, wanted, "of {text}");
+    let sink = listing_of(rt.alloc(), &assemble(rt.alloc(), text)?)?;
+    check_equal_for(rt, sink.text()?, wanted, format_args!("of {text}"));
     Ok(())
 }
 
@@ -70,7 +71,12 @@ fn check_fault<R: AllocGlobal + Abort>(
     kind: AsmFaultKind,
 ) -> Result<(), Fail> {
     let fault = fault_of(rt.alloc(), text)?;
-    assert_eq!(rt; fault, AsmFault { line, kind }, "of {text}");
+    check_equal_for(
+        rt,
+        fault,
+        AsmFault { line, kind },
+        format_args!("of {text}"),
+    );
     Ok(())
 }
 
@@ -138,11 +144,11 @@ fn halts(alloc: Global) -> Result<String, AllocError> {
 #[test]
 fn a_program_has_at_most_4096_instructions(rt: HostRuntime) -> Result<(), Fail> {
     let mut text = halts(rt.alloc())?;
-    assert_eq!(rt; assemble(rt.alloc(), text.as_str())?.len(), 4096);
+    check_equal(&rt, assemble(rt.alloc(), text.as_str())?.len(), 4096);
     text.push_str("end:; nothing\nhalt r1")?;
     let fault = fault_of(rt.alloc(), text.as_str())?;
     let message = format!(in rt.alloc(); "{fault}")?;
-    assert_eq!(rt; message.as_str(), "line 4098: too long");
+    check_equal(&rt, message.as_str(), "line 4098: too long");
     Ok(())
 }
 
@@ -151,9 +157,9 @@ fn a_fault_of_the_sink_is_reported(rt: HostRuntime) -> Result<(), Fail> {
     let program = assemble(rt.alloc(), "x: jmp x")?;
     let limits = SinkLimits::taking_at_most(3).failing_after(3);
     let mut sink = MemorySink::with_limits(rt.alloc(), limits)?;
-    assert_eq!(rt; listing(&program, &mut sink), Err(SinkFault));
-    assert_eq!(rt; sink.text()?, "L0:\njmp L");
-    assert_eq!(rt; sink.failures, 1);
+    check_equal(&rt, listing(&program, &mut sink), Err(SinkFault));
+    check_equal(&rt, sink.text()?, "L0:\njmp L");
+    check_equal(&rt, sink.failures, 1);
     Ok(())
 }
 
@@ -162,10 +168,10 @@ fn a_fault_of_the_sink_is_reported(rt: HostRuntime) -> Result<(), Fail> {
 #[test]
 fn refused_memory_is_reported(rt: HostRuntime) -> Result<(), Fail> {
     match assemble(rt.alloc(), "a: li r1 1\nb: jmp a\nc: halt ; end\nd:") {
-        Ok(program) => assert_eq!(rt; program.len(), 3),
+        Ok(program) => check_equal(&rt, program.len(), 3),
         Err(fault) => {
             let kind = AsmFaultKind::NoMemory;
-            assert_eq!(rt; fault, AsmFault { line: 0, kind });
+            check_equal(&rt, fault, AsmFault { line: 0, kind });
         }
     }
     Ok(())

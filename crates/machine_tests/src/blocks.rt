@@ -1,5 +1,6 @@
 //! Machines cut into blocks: some cycles of them, and what happened in the last one.
 
+use crate::equal::check_equal;
 use std::process::Abort;
 use test_support::answered_event;
 use ultra_machine::{Blocks, ProcessingElement};
@@ -17,7 +18,7 @@ pub(crate) fn run_blocks(rt: &impl Abort, blocks: &mut Blocks, cycles: u32) {
 
 /// Asserts what happened next in a cycle.
 pub(crate) fn event_is(rt: &impl Abort, found: Option<Event>, wanted: Option<Event>) {
-    assert_eq!(rt; found, wanted);
+    check_equal(rt, found, wanted);
 }
 
 /// Just this happened in the last cycle.
@@ -62,7 +63,7 @@ pub(crate) fn element<'b>(rt: &impl Abort, blocks: &'b Blocks, pe: Pe) -> &'b Pr
 
 /// The value of cell 0.
 pub(crate) fn first_cell_is(rt: &impl Abort, blocks: &Blocks, word: Word) {
-    assert_eq!(rt; memory_module(rt, blocks, 0).peek(0), Some(word));
+    check_equal(rt, memory_module(rt, blocks, 0).peek(0), Some(word));
 }
 
 /// In the last cycle of the worked tree of two levels every processing element gets its own value,

@@ -1,6 +1,7 @@
 //! Machines whose cycles are made by several workers.
 
 use crate::blocks::{element, event_is, lane, memory_module, replies, tree_is_answered};
+use crate::equal::check_equal;
 use crate::meeting::MeetingOfThree;
 use std::alloc::Global;
 use std::process::Abort;
@@ -27,6 +28,12 @@ pub(crate) fn additions(alloc: Global, stages: i64, partition: &[u8]) -> Result<
     let config = config(alloc, stages)?;
     let program = add_number(alloc)?;
     Ok(Blocks::new(alloc, &config, &program, partition)?)
+}
+
+/// Makes a cycle without workers.
+fn make_cycle_alone(rt: &impl Abort, blocks: &mut Blocks) {
+    assert!(rt; blocks.done() < 1000);
+    cycle_alone(blocks);
 }
 
 /// Makes a cycle by these workers.
@@ -100,7 +107,7 @@ const THREE_BLOCKS: &[u8] = &[0, 1, 2, 0, 1];
 fn gate_meets(rt: HostRuntime) -> Result<(), Fail> {
     let meeting = Meeting::new();
     cycles_by(&rt, TWO_BLOCKS, 2, &meeting, 8)?;
-    assert_eq!(rt; meeting.halves_met(), Some(8 * 6));
+    check_equal(&rt, meeting.halves_met(), Some(8 * 6));
     Ok(())
 }
 
@@ -110,7 +117,7 @@ fn gate_meets(rt: HostRuntime) -> Result<(), Fail> {
 fn gate_meets_when_kept(rt: HostRuntime) -> Result<(), Fail> {
     let meeting = Meeting::new();
     cycles_by_kept(&rt, TWO_BLOCKS, 2, &meeting, 8)?;
-    assert_eq!(rt; meeting.halves_met(), Some(8 * 6));
+    check_equal(&rt, meeting.halves_met(), Some(8 * 6));
     Ok(())
 }
 
@@ -120,7 +127,7 @@ fn gate_meets_when_kept(rt: HostRuntime) -> Result<(), Fail> {
 fn three_meet(rt: HostRuntime) -> Result<(), Fail> {
     let meeting = MeetingOfThree::new();
     cycles_by(&rt, THREE_BLOCKS, 3, &meeting, 8)?;
-    assert_eq!(rt; meeting.halves_met(), Some(8 * 6));
+    check_equal(&rt, meeting.halves_met(), Some(8 * 6));
     Ok(())
 }
 
@@ -128,53 +135,63 @@ fn three_meet(rt: HostRuntime) -> Result<(), Fail> {
 fn three_meet_when_kept(rt: HostRuntime) -> Result<(), Fail> {
     let meeting = MeetingOfThree::new();
     cycles_by_kept(&rt, THREE_BLOCKS, 3, &meeting, 8)?;
-    assert_eq!(rt; meeting.halves_met(), Some(8 * 6));
+    check_equal(&rt, meeting.halves_met(), Some(8 * 6));
+    Ok(())
+}
+
+/// Writes the trace of a run by three workers.
+fn run_by_three<R: Threads + Wait + Sync + AllocGlobal, G: Gate + Sync>(
+    rt: &R,
+    gate: &G,
+    out: &mut MemorySink,
+) -> Result<(), Fail> {
+    let config = config(rt.alloc(), 1)?;
+    let program = add_one(rt.alloc())?;
+    run(rt, rt.alloc(), &config, &program, 3, gate, out)?;
     Ok(())
 }
 
 /// A run by three workers, whose units are dealt to three blocks.
 #[test]
 fn three_meet_in_a_run(rt: HostRuntime) -> Result<(), Fail> {
-    let config = config(rt.alloc(), 1)?;
-    let program = add_one(rt.alloc())?;
     let meeting = MeetingOfThree::new();
     let mut out = MemorySink::new(rt.alloc())?;
-    run(&rt, rt.alloc(), &config, &program, 3, &meeting, &mut out)?;
-    assert_eq!(rt; out.text()?, COMBINED_PAIR);
-    assert_eq!(rt; meeting.halves_met(), Some(8 * 6));
+    run_by_three(&rt, &meeting, &mut out)?;
+    check_equal(&rt, out.text()?, COMBINED_PAIR);
+    check_equal(&rt, meeting.halves_met(), Some(8 * 6));
     Ok(())
 }
 
 fn same_requests(rt: &impl Abort, a: &ToMm, b: &ToMm) {
     assert_eq!(rt; a.len(), b.len());
     for index in 0..a.len() {
-        assert_eq!(rt; a.entry(index), b.entry(index));
+        check_equal(rt, a.entry(index), b.entry(index));
     }
     assert_eq!(rt; a.record_count(), b.record_count());
     for index in 0..a.record_count() {
-        assert_eq!(rt; a.record(index), b.record(index));
+        check_equal(rt, a.record(index), b.record(index));
     }
 }
 
 fn same_replies(rt: &impl Abort, a: &ToPe, b: &ToPe) {
     assert_eq!(rt; a.len(), b.len());
     for index in 0..a.len() {
-        assert_eq!(rt; a.reply(index), b.reply(index));
+        check_equal(rt, a.reply(index), b.reply(index));
     }
 }
 
 fn same_module(rt: &impl Abort, a: &Module, b: &Module) {
-    assert_eq!(rt; a.request(), b.request());
-    assert_eq!(rt; a.reply(), b.reply());
+    check_equal(rt, a.request(), b.request());
+    check_equal(rt, a.reply(), b.reply());
     for offset in 0..16 {
-        assert_eq!(rt; a.peek(offset), b.peek(offset));
+        check_equal(rt, a.peek(offset), b.peek(offset));
     }
 }
 
 fn same_registers(rt: &impl Abort, a: &Processor, b: &Processor) {
     for number in 0..16 {
         let register = register(number);
-        assert_eq!(rt; a.register(register), b.register(register));
+        check_equal(rt, a.register(register), b.register(register));
     }
 }
 
@@ -191,9 +208,9 @@ fn waiting(element: &ProcessingElement) -> (usize, Option<Request>) {
 }
 
 fn same_element(rt: &impl Abort, a: &ProcessingElement, b: &ProcessingElement) {
-    assert_eq!(rt; a.issued, b.issued);
-    assert_eq!(rt; doing(a), doing(b));
-    assert_eq!(rt; waiting(a), waiting(b));
+    check_equal(rt, a.issued, b.issued);
+    check_equal(rt, doing(a), doing(b));
+    check_equal(rt, waiting(a), waiting(b));
     same_registers(rt, &a.processor, &b.processor);
 }
 
@@ -210,7 +227,7 @@ fn same_events(rt: &impl Abort, a: &Blocks, b: &Blocks) {
 fn same_stops(rt: &impl Abort, a: &Blocks, b: &Blocks) {
     let mut stops = b.stops();
     for stop in a.stops() {
-        assert_eq!(rt; cause(stops.next()), cause(Some(stop)));
+        check_equal(rt, cause(stops.next()), cause(Some(stop)));
     }
     assert!(rt; stops.next().is_none());
 }
@@ -242,8 +259,8 @@ fn same_ends(rt: &impl Abort, a: &Blocks, b: &Blocks, number: u32) {
 /// Two machines with as many stages hold the same everywhere, and the same happened in their last
 /// cycles.
 fn same_places(rt: &impl Abort, a: &Blocks, b: &Blocks) {
-    assert_eq!(rt; a.done(), b.done());
-    assert_eq!(rt; a.config().stages(), b.config().stages());
+    check_equal(rt, a.done(), b.done());
+    check_equal(rt, a.config().stages(), b.config().stages());
     let net = a.config().net();
     for stage in 0..net.stages() {
         for position in 0..net.size() {
@@ -274,8 +291,7 @@ fn goes_as_alone<R: Threads + Wait + Sync + Abort + AllocGlobal, G: Gate + Sync>
     let mut alone = additions(rt.alloc(), 2, &[0; 12])?;
     let mut blocks = additions(rt.alloc(), 2, partition)?;
     for _ in 0..10u32 {
-        assert!(rt; alone.done() < 1000);
-        cycle_alone(&mut alone);
+        make_cycle_alone(rt, &mut alone);
         blocks = make_cycle(rt, rt.alloc(), blocks, workers, gate)?;
         same_places(rt, &alone, &blocks);
     }
@@ -291,7 +307,7 @@ fn any_workers(rt: HostRuntime) -> Result<(), Fail> {
         goes_as_alone(&rt, &switches_apart, workers, &gate)?;
     }
     // blocks 0 to 5, 6 halves and 10 cycles, by each crew of more than one
-    assert_eq!(rt; gate.calls.load(Ordering::SeqCst), 3 * 6 * 6 * 10);
+    check_equal(&rt, gate.calls.load(Ordering::SeqCst), 3 * 6 * 6 * 10);
     Ok(())
 }
 
@@ -301,6 +317,18 @@ fn one_worker_late(rt: HostRuntime) -> Result<(), Fail> {
     goes_as_alone(&rt, &[0, 1, 2, 0, 1, 2, 0, 1, 2, 0, 1, 2], 3, &gate)
 }
 
+/// The machine of two stages in this partition after ten cycles, made by these workers, whose
+/// threads are kept.
+fn ten_by_kept<R: Threads + Wait + Sync + Abort + AllocGlobal, G: Gate + Sync>(
+    rt: &R,
+    partition: &[u8],
+    workers: usize,
+    gate: &G,
+) -> Result<Blocks, Fail> {
+    let blocks = additions(rt.alloc(), 2, partition)?;
+    Ok(by_kept(rt, rt.alloc(), blocks, workers, gate, 10)?)
+}
+
 /// Ten cycles by these workers, whose threads are kept, beside the same machine in one block and
 /// without workers: after them both hold the same everywhere.
 fn kept_go_as_alone<R: Threads + Wait + Sync + Abort + AllocGlobal, G: Gate + Sync>(
@@ -308,11 +336,8 @@ fn kept_go_as_alone<R: Threads + Wait + Sync + Abort + AllocGlobal, G: Gate + Sy
     workers: usize,
     gate: &G,
 ) -> Result<(), Fail> {
-    let alloc = rt.alloc();
-    let alone = additions(alloc, 2, &[0; 12])?;
-    let alone = by_kept(rt, alloc, alone, 1, gate, 10)?;
-    let blocks = additions(alloc, 2, &[0, 1, 2, 0, 1, 2, 0, 1, 2, 0, 1, 2])?;
-    let blocks = by_kept(rt, alloc, blocks, workers, gate, 10)?;
+    let alone = ten_by_kept(rt, &[0; 12], 1, gate)?;
+    let blocks = ten_by_kept(rt, &[0, 1, 2, 0, 1, 2, 0, 1, 2, 0, 1, 2], workers, gate)?;
     same_places(rt, &alone, &blocks);
     tree_is_answered(rt, &blocks);
     Ok(())
@@ -334,7 +359,7 @@ fn kept_workers(rt: HostRuntime) -> Result<(), Fail> {
 fn one_cycle_by_two(rt: HostRuntime) -> Result<(), Fail> {
     let gate = Counter::new();
     cycles_by(&rt, TWO_BLOCKS, 2, &gate, 1)?;
-    assert_eq!(rt; gate.calls.load(Ordering::SeqCst), 2 * 6);
+    check_equal(&rt, gate.calls.load(Ordering::SeqCst), 2 * 6);
     Ok(())
 }
 
@@ -343,6 +368,6 @@ fn one_cycle_by_two(rt: HostRuntime) -> Result<(), Fail> {
 fn two_cycles_by_two(rt: HostRuntime) -> Result<(), Fail> {
     let gate = Counter::new();
     cycles_by_kept(&rt, TWO_BLOCKS, 2, &gate, 2)?;
-    assert_eq!(rt; gate.calls.load(Ordering::SeqCst), 2 * 2 * 6);
+    check_equal(&rt, gate.calls.load(Ordering::SeqCst), 2 * 2 * 6);
     Ok(())
 }

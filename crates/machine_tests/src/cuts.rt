@@ -2,6 +2,7 @@
 //! ten cycles.
 
 use crate::blocks::{run_blocks, tree_is_answered};
+use crate::equal::check_equal;
 use crate::machines::{ends_with, four_become_one, machine, one_becomes_four, run_to};
 use std::process::Abort;
 use std::test::Fail;
@@ -25,7 +26,7 @@ fn given_back(
     match machine.into_blocks(rt.alloc(), partition) {
         Ok(_) => Err(Fail::from("cut")),
         Err((machine, fault)) => {
-            assert_eq!(rt; fault, PartitionFault::BadPartition);
+            check_equal(rt, fault, PartitionFault::BadPartition);
             Ok(machine)
         }
     }
@@ -75,7 +76,7 @@ fn a_machine_is_cut_or_given_back(rt: HostRuntime) -> Result<(), Fail> {
     match on_its_way(&rt)?.into_blocks(rt.alloc(), &[0, 0, 1, 1, 2, 2, 2, 2, 3, 3, 3, 3]) {
         Ok(mut blocks) => go_on(&rt, &mut blocks),
         Err((mut machine, fault)) => {
-            assert_eq!(rt; fault, PartitionFault::NoMemory);
+            check_equal(&rt, fault, PartitionFault::NoMemory);
             goes_on(&rt, &mut machine);
         }
     }

@@ -1,6 +1,7 @@
 //! The largest machine in two blocks that have 62 empty ones between them.
 
 use crate::crews::additions;
+use crate::equal::check_equal;
 use std::alloc::Global;
 use std::process::Abort;
 use std::test::Fail;
@@ -47,6 +48,6 @@ fn same_bytes_as_one_block(rt: HostRuntime) -> Result<(), Fail> {
     let partition = first_and_last(rt.alloc())?;
     let written = lines_of(&rt, partition.as_slice())?;
     assert!(&rt; wanted.as_str().contains("\ngot "), "{wanted}");
-    assert_eq!(&rt; written.as_str(), wanted.as_str());
+    check_equal(&rt, written.as_str(), wanted.as_str());
     Ok(())
 }

@@ -1,6 +1,7 @@
 //! Requests of all processing elements to one cell, at each number of stages: the memory serves it
 //! by one act.
 
+use crate::equal::check_equal;
 use crate::machines::{machine, run};
 use std::process::Abort;
 use std::test::Fail;
@@ -15,13 +16,13 @@ fn act_is(rt: &impl Abort, machine: &Machine, wanted: bool) {
         match event {
             Event::Served { request, .. } => {
                 assert!(rt; !served);
-                assert_eq!(rt; request.cell, 0);
+                check_equal(rt, request.cell, 0);
                 served = true;
             }
             _ => {}
         }
     }
-    assert_eq!(rt; served, wanted);
+    check_equal(rt, served, wanted);
 }
 
 /// In the last cycle n processing elements were answered for cell 0.
@@ -30,8 +31,8 @@ fn answers_are(rt: &impl Abort, machine: &Machine, size: u32) {
     for pe in 0..size {
         match events.next() {
             Some(Event::Delivered(message)) => {
-                assert_eq!(rt; message.pe, pe);
-                assert_eq!(rt; message.cell, 0);
+                check_equal(rt, message.pe, pe);
+                check_equal(rt, message.cell, 0);
             }
             _ => assert!(rt; false),
         }

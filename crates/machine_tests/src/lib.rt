@@ -12,6 +12,8 @@ mod cuts;
 #[cfg(test)]
 mod empty_blocks;
 #[cfg(test)]
+mod equal;
+#[cfg(test)]
 mod hot_spots;
 #[cfg(test)]
 mod machines;

@@ -1,5 +1,6 @@
 //! The worked run of two stages, in which four requests for cell 0 become one.
 
+use crate::equal::check_equal;
 use std::alloc::Global;
 use std::process::Abort;
 use std::test::Fail;
@@ -33,7 +34,7 @@ pub(crate) fn run(rt: &impl Abort, machine: &mut Machine, cycles: u32) {
 /// Makes n cycles. In the last of them just this happens.
 pub(crate) fn run_to(rt: &impl Abort, machine: &mut Machine, cycles: u32, wanted: &[Event]) {
     run(rt, machine, cycles);
-    assert_eq!(rt; machine.events(), wanted);
+    check_equal(rt, machine.events(), wanted);
 }
 
 /// The queue toward memory at a position of a stage.
@@ -46,18 +47,18 @@ fn lane<'m>(rt: &impl Abort, machine: &'m Machine, stage: u32, position: u32) ->
 /// What is in a queue toward memory: requests of processing elements for a cell, and whether each
 /// has combined there.
 pub(crate) fn queue_is(rt: &impl Abort, lane: &ToMm, wanted: &[(Pe, u32, Op, bool)]) {
-    assert_eq!(rt; lane.len(), wanted.len());
+    check_equal(rt, lane.len(), wanted.len());
     for (index, &(pe, cell, op, combined)) in wanted.iter().enumerate() {
         assert!(rt; index < lane.len());
         let request = Request { pe, cell, op };
-        assert_eq!(rt; lane.entry(index), QueueEntry { request, combined });
+        check_equal(rt, lane.entry(index), QueueEntry { request, combined });
     }
 }
 
 /// The only record in the wait buffer of a queue toward memory.
 pub(crate) fn record_is(rt: &impl Abort, lane: &ToMm, wanted: WaitRecord) {
     assert!(rt; lane.record_count() == 1);
-    assert_eq!(rt; lane.record(0), wanted);
+    check_equal(rt, lane.record(0), wanted);
 }
 
 /// The only reply in the queue toward the processing elements at a position of a stage: its
@@ -67,14 +68,14 @@ fn reply_is(rt: &impl Abort, machine: &Machine, stage: u32, position: u32, wante
     assert!(rt; position < machine.config().net().size());
     let queue = machine.reply_queue(stage, position);
     assert!(rt; queue.len() == 1);
-    assert_eq!(rt; queue.reply(0), answer(wanted.0, wanted.1));
+    check_equal(rt, queue.reply(0), answer(wanted.0, wanted.1));
 }
 
 /// The value of cell 0 at the end.
 pub(crate) fn ends_with(rt: &impl Abort, machine: &Machine, word: Word) {
     assert!(rt; machine.is_quiet());
     assert!(rt; machine.config().net().size() > 0);
-    assert_eq!(rt; machine.memory_module(0).peek(0), Some(word));
+    check_equal(rt, machine.memory_module(0).peek(0), Some(word));
 }
 
 #[test]

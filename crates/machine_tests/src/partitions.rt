@@ -1,6 +1,7 @@
 //! Machines of two stages in a partition with empty blocks, and partitions that are refused.
 
 use crate::blocks::{events_are, first_cell_is, lane, run_blocks};
+use crate::equal::check_equal;
 use crate::machines::{queue_is, record_is};
 use std::process::Abort;
 use std::test::Fail;
@@ -50,13 +51,13 @@ fn bad_partitions(rt: HostRuntime) -> Result<(), Fail> {
     let config = config(rt.alloc(), 2)?;
     let program = add_one(rt.alloc())?;
     let short = Blocks::new(rt.alloc(), &config, &program, &[0; 11]).err();
-    assert_eq!(rt; short, Some(PartitionFault::BadPartition));
+    check_equal(&rt, short, Some(PartitionFault::BadPartition));
     let above = Blocks::new(
         rt.alloc(),
         &config,
         &program,
         &[0, 0, 0, 0, 0, 0, 0, 0, 0, 0, 0, 64],
     );
-    assert_eq!(rt; above.err(), Some(PartitionFault::BadPartition));
+    check_equal(&rt, above.err(), Some(PartitionFault::BadPartition));
     Ok(())
 }

@@ -1,5 +1,6 @@
 //! Measures of runs. The expected texts are those of the reference program.
 
+use crate::equal::check_equal;
 use std::alloc::Global;
 use std::process::Abort;
 use std::test::Fail;
@@ -218,7 +219,7 @@ fn check_lines(
     let config = Config::new(rt.alloc(), settings)?;
     let mut out = MemorySink::new(rt.alloc())?;
     measure(rt.alloc(), &config, program, Layout::Lines, &mut out)?;
-    assert_eq!(rt; out.text()?, wanted);
+    check_equal(rt, out.text()?, wanted);
     Ok(())
 }
 
@@ -234,7 +235,7 @@ fn check_windows(
     let mut out = MemorySink::new(rt.alloc())?;
     measure(rt.alloc(), &config, program, layout, &mut out)?;
     let wanted = format!(in rt.alloc(); "{NAMES}{rows}")?;
-    assert_eq!(rt; out.text()?, wanted.as_str());
+    check_equal(rt, out.text()?, wanted.as_str());
     Ok(())
 }
 
@@ -295,7 +296,7 @@ fn failing_sink(rt: HostRuntime) -> Result<(), Fail> {
     if fault == Err(RunFault::NoMemory) {
         return Err("no memory".into());
     }
-    assert_eq!(&rt; fault, Err(RunFault::Write));
-    assert_eq!(&rt; out.failures, 1);
+    check_equal(&rt, fault, Err(RunFault::Write));
+    check_equal(&rt, out.failures, 1);
     Ok(())
 }

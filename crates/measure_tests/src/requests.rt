@@ -1,5 +1,6 @@
 //! Events and requests of runs. The expected texts are those of the reference program.
 
+use crate::equal::check_equal;
 use std::alloc::Global;
 use std::process::Abort;
 use std::test::Fail;
@@ -86,10 +87,10 @@ fn all_operations(rt: HostRuntime) -> Result<(), Fail> {
     let program = mixed(rt.alloc())?;
     let mut events = MemorySink::new(rt.alloc())?;
     write_events(rt.alloc(), &config, &program, 7, 19, &mut events)?;
-    assert_eq!(&rt; events.text()?, MIXED_EVENTS);
+    check_equal(&rt, events.text()?, MIXED_EVENTS);
     let mut requests = MemorySink::new(rt.alloc())?;
     write_requests(rt.alloc(), &config, &program, &mut requests)?;
-    assert_eq!(&rt; requests.text()?, MIXED_REQUESTS);
+    check_equal(&rt, requests.text()?, MIXED_REQUESTS);
     Ok(())
 }
 
@@ -104,13 +105,13 @@ fn fault_and_limit(rt: HostRuntime) -> Result<(), Fail> {
     let program = add_beyond(rt.alloc())?;
     let mut events = MemorySink::new(rt.alloc())?;
     write_events(rt.alloc(), &config, &program, 3, 8, &mut events)?;
-    assert_eq!(&rt; events.text()?, FAULT_EVENTS);
+    check_equal(&rt, events.text()?, FAULT_EVENTS);
     let mut none = MemorySink::new(rt.alloc())?;
     write_events(rt.alloc(), &config, &program, 9, 8, &mut none)?;
-    assert_eq!(&rt; none.text()?, "");
+    check_equal(&rt, none.text()?, "");
     let mut requests = MemorySink::new(rt.alloc())?;
     write_requests(rt.alloc(), &config, &program, &mut requests)?;
-    assert_eq!(&rt; requests.text()?, REQUESTS_AT_LIMIT);
+    check_equal(&rt, requests.text()?, REQUESTS_AT_LIMIT);
     Ok(())
 }
 
@@ -124,7 +125,7 @@ fn failing_sink_of_requests(rt: HostRuntime) -> Result<(), Fail> {
     if fault == Err(RunFault::NoMemory) {
         return Err("no memory".into());
     }
-    assert_eq!(&rt; fault, Err(RunFault::Write));
-    assert_eq!(&rt; out.failures, 1);
+    check_equal(&rt, fault, Err(RunFault::Write));
+    check_equal(&rt, out.failures, 1);
     Ok(())
 }

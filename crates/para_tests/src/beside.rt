@@ -2,6 +2,7 @@
 
 ghost use Rattle.std.specs.Prelude.{◌<◌, ◌↔◌, All, IsTrue};
 
+use crate::equal::check_equal_for;
 use crate::making::register;
 use crate::random::{Random, random_program, random_settings};
 use std::alloc::Global;
@@ -128,14 +129,19 @@ fn cell_looks_like(rt: &impl Abort, machine: &Machine, para: &Para, cell: Cell) 
     let size = machine.config().net().size();
     assert!(rt; size > 0);
     let word = machine.memory_module(cell % size).peek(cell / size);
-    assert_eq!(rt; para.peek(cell), word, "in cell {cell}");
+    check_equal_for(rt, para.peek(cell), word, format_args!("in cell {cell}"));
 }
 
 /// The paracomputer has the registers of a processing element.
 fn registers_look_like(rt: &impl Abort, processor: &Processor, para: &Para, pe: Pe) {
     for number in 0..16 {
         let word = processor.register(register(number));
-        assert_eq!(rt; para.register(pe, number), Some(word), "r{number} of {pe}");
+        check_equal_for(
+            rt,
+            para.register(pe, number),
+            Some(word),
+            format_args!("r{number} of {pe}"),
+        );
     }
 }
 
@@ -143,8 +149,18 @@ fn registers_look_like(rt: &impl Abort, processor: &Processor, para: &Para, pe: 
 fn place_looks_like(rt: &impl Abort, processor: &Processor, para: &Para, pe: Pe) {
     let found = para.processors().get(pe as usize);
     let found = found.expect(rt, "no processing element");
-    assert_eq!(rt; found.pc(), processor.pc(), "place of {pe}");
-    assert_eq!(rt; found.activity(), processor.activity(), "state of {pe}");
+    check_equal_for(
+        rt,
+        found.pc(),
+        processor.pc(),
+        format_args!("place of {pe}"),
+    );
+    check_equal_for(
+        rt,
+        found.activity(),
+        processor.activity(),
+        format_args!("state of {pe}"),
+    );
 }
 
 /// The paracomputer has the machine's cells, and of each processing element without an open cell

@@ -5,6 +5,8 @@
 #[cfg(test)]
 mod beside;
 #[cfg(test)]
+mod equal;
+#[cfg(test)]
 mod making;
 #[cfg(test)]
 mod random;

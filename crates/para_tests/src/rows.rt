@@ -2,6 +2,7 @@
 //! not.
 
 use crate::beside::after;
+use crate::equal::{check_equal, check_equal_for};
 use crate::making::{program, register, settings};
 use std::alloc::Global;
 use std::process::Abort;
@@ -14,14 +15,24 @@ use ultra_para::{Para, first_unfenced, is_careful};
 /// Asserts what registers hold.
 fn check_registers(rt: &impl Abort, para: &Para, wanted: &[(Pe, u8, Option<Word>)]) {
     for &(pe, number, expected) in wanted {
-        assert_eq!(rt; para.register(pe, number), expected, "r{number} of {pe}");
+        check_equal_for(
+            rt,
+            para.register(pe, number),
+            expected,
+            format_args!("r{number} of {pe}"),
+        );
     }
 }
 
 /// Asserts what cells hold.
 fn check_cells(rt: &impl Abort, para: &Para, wanted: &[(Cell, Option<Word>)]) {
     for &(cell, expected) in wanted {
-        assert_eq!(rt; para.peek(cell), expected, "in cell {cell}");
+        check_equal_for(
+            rt,
+            para.peek(cell),
+            expected,
+            format_args!("in cell {cell}"),
+        );
     }
 }
 
@@ -51,8 +62,8 @@ fn judge(
     unfenced: Option<usize>,
 ) -> Result<(), Fail> {
     let program = program(list.to_vec(rt.alloc())?)?;
-    assert_eq!(rt; first_unfenced(&program), unfenced);
-    assert_eq!(rt; is_careful(&program), unfenced.is_none());
+    check_equal(rt, first_unfenced(&program), unfenced);
+    check_equal(rt, is_careful(&program), unfenced.is_none());
     Ok(())
 }
 

@@ -2,6 +2,7 @@
 //! reference program.
 
 use crate::beside::is_schedule;
+use crate::equal::check_equal;
 use crate::making::{program, register, settings};
 use std::alloc::Global;
 use std::process::Abort;
@@ -125,9 +126,9 @@ fn read(
     expected: Result<&[Pe], ScheduleFault>,
 ) -> Result<(), Fail> {
     match read_schedule(rt.alloc(), text, 4) {
-        Ok(schedule) => assert_eq!(rt; Ok(schedule.as_slice()), expected),
+        Ok(schedule) => check_equal(rt, Ok(schedule.as_slice()), expected),
         Err(ScheduleFault::NoMemory) => return Err("no memory".into()),
-        Err(fault) => assert_eq!(rt; Err(fault), expected),
+        Err(fault) => check_equal(rt, Err(fault), expected),
     }
     Ok(())
 }
@@ -161,7 +162,7 @@ fn run_along(
     assert!(rt; is_schedule(schedule, config.net().size()));
     let mut out = MemorySink::new(rt.alloc())?;
     write_para(rt.alloc(), config, program, schedule, false, &mut out)?;
-    assert_eq!(rt; out.text()?, expected);
+    check_equal(rt, out.text()?, expected);
     Ok(())
 }
 
@@ -180,15 +181,16 @@ fn drawn_until_all_have_stopped(rt: HostRuntime) -> Result<(), Fail> {
     let (alloc, config, program) = (rt.alloc(), two_elements(rt.alloc())?, add_one(rt.alloc())?);
     let mut out = MemorySink::new(rt.alloc())?;
     write_seeded(alloc, &config, &program, 0, None, false, &mut out)?;
-    assert_eq!(&rt; out.text()?, ADD_FROM_0);
+    check_equal(&rt, out.text()?, ADD_FROM_0);
     let mut out = MemorySink::new(rt.alloc())?;
     write_seeded(alloc, &config, &program, 1, Some(10), false, &mut out)?;
-    assert_eq!(&rt; out.text()?, ADD_FROM_1);
+    check_equal(&rt, out.text()?, ADD_FROM_1);
     let mut out = MemorySink::new(rt.alloc())?;
     write_seeded(alloc, &config, &program, 1, Some(0), true, &mut out)?;
-    assert_eq!(&rt;
+    check_equal(
+        &rt,
         out.text()?,
-        "end steps 0 running\npe 0 running 0\npe 1 running 0\n"
+        "end steps 0 running\npe 0 running 0\npe 1 running 0\n",
     );
     Ok(())
 }
@@ -202,10 +204,10 @@ fn drawn_until_the_steps_are_made(rt: HostRuntime) -> Result<(), Fail> {
     );
     let mut out = MemorySink::new(rt.alloc())?;
     write_seeded(alloc, &config, &program, 0, None, false, &mut out)?;
-    assert_eq!(&rt; out.text()?, SWAP_FROM_0);
+    check_equal(&rt, out.text()?, SWAP_FROM_0);
     let mut out = MemorySink::new(rt.alloc())?;
     write_seeded(alloc, &config, &program, u64::MAX, None, true, &mut out)?;
-    assert_eq!(&rt; out.text()?, END_FROM_LARGEST);
+    check_equal(&rt, out.text()?, END_FROM_LARGEST);
     Ok(())
 }
 
@@ -218,7 +220,7 @@ fn failing_sink(rt: HostRuntime) -> Result<(), Fail> {
     if fault == Err(RunFault::NoMemory) {
         return Err("no memory".into());
     }
-    assert_eq!(&rt; fault, Err(RunFault::Write));
-    assert_eq!(&rt; out.failures, 1);
+    check_equal(&rt, fault, Err(RunFault::Write));
+    check_equal(&rt, out.failures, 1);
     Ok(())
 }

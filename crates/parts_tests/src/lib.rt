@@ -3,6 +3,8 @@
 #![tactic(auto)]
 
 #[cfg(test)]
+mod equal;
+#[cfg(test)]
 mod modules;
 #[cfg(test)]
 mod orders;

@@ -1,5 +1,6 @@
 //! One memory module.
 
+use crate::equal::{check_equal, check_equal_for};
 use std::process::Abort;
 use std::test::Fail;
 use test_support::{answer, faa};
@@ -8,19 +9,19 @@ use ultra_msg::{Reply, ReplyMessage, Request, Word};
 
 /// An idle module of 16 cells takes a request for its first cell.
 fn takes(rt: &impl Abort, module: &mut Module, request: Request) {
-    assert_eq!(rt; module.cell_count(), 16);
-    assert_eq!(rt; module.serve(), None);
+    check_equal(rt, module.cell_count(), 16);
+    check_equal(rt, module.serve(), None);
     assert!(rt; module.is_idle());
     module.put(request, 0);
-    assert_eq!(rt; module.request(), Some(request));
+    check_equal(rt, module.request(), Some(request));
     assert!(rt; !module.is_idle());
 }
 
 /// Its first cell holds this value, and this reply is taken.
 fn answers(rt: &impl Abort, module: &mut Module, now: Word, message: ReplyMessage) {
-    assert_eq!(rt; module.peek(0), Some(now));
-    assert_eq!(rt; module.reply(), Some(message));
-    assert_eq!(rt; module.take_reply(), Some(message));
+    check_equal(rt, module.peek(0), Some(now));
+    check_equal(rt, module.reply(), Some(message));
+    check_equal(rt, module.take_reply(), Some(message));
     assert!(rt; module.is_idle());
 }
 
@@ -36,7 +37,7 @@ fn combined_pair(rt: HostRuntime) -> Result<(), Fail> {
     };
     let mut module = Module::new(rt.alloc(), 16)?;
     takes(&rt, &mut module, request);
-    assert_eq!(rt; module.serve(), Some(served));
+    check_equal(&rt, module.serve(), Some(served));
     answers(&rt, &mut module, 2, answer(1, 0));
     Ok(())
 }
@@ -45,15 +46,20 @@ fn combined_pair(rt: HostRuntime) -> Result<(), Fail> {
 fn has_last_cell(rt: &impl Abort, module: &mut Module) {
     assert_eq!(rt; module.cell_count(), 4096);
     module.set(4095, 7);
-    assert_eq!(rt; module.peek(4095), Some(7));
-    assert_eq!(rt; module.peek(4096), None);
+    check_equal(rt, module.peek(4095), Some(7));
+    check_equal(rt, module.peek(4096), None);
 }
 
 #[test]
 fn cells_out_of_range(rt: HostRuntime) -> Result<(), Fail> {
     for cells in [0, 4097] {
         let fault = Module::new(rt.alloc(), cells).err();
-        assert_eq!(rt; fault, Some(ModuleFault::CellsOutOfRange), "at {cells}");
+        check_equal_for(
+            &rt,
+            fault,
+            Some(ModuleFault::CellsOutOfRange),
+            format_args!("at {cells}"),
+        );
     }
     let mut module = Module::new(rt.alloc(), 4096)?;
     has_last_cell(&rt, &mut module);

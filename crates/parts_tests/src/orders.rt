@@ -1,5 +1,6 @@
 //! Orders and logs of worked runs, and lists that are refused.
 
+use crate::equal::{check_equal, check_equal_for};
 use std::alloc::Global;
 use std::process::Abort;
 use std::test::Fail;
@@ -114,7 +115,7 @@ fn check_breach(
 ) -> Result<(), Fail> {
     match check(rt.alloc(), &[], log, &[(0, cell)], list) {
         Err(CheckFault::Breach(kind, index)) => {
-            assert_eq!(rt; (kind, index), expected);
+            check_equal(rt, (kind, index), expected);
             Ok(())
         }
         Err(refused) => Err(Fail::from(refused)),
@@ -129,7 +130,12 @@ fn check_acts(
     acts: &[(Cell, Op, Reply)],
 ) -> Result<(), Fail> {
     for &(cell, op, reply) in acts {
-        assert_eq!(rt; memory.act(cell, op)?, reply, "{op:?} at {cell}");
+        check_equal_for(
+            rt,
+            memory.act(cell, op)?,
+            reply,
+            format_args!("{op:?} at {cell}"),
+        );
     }
     Ok(())
 }
@@ -137,7 +143,7 @@ fn check_acts(
 #[test]
 fn serial_memory(rt: HostRuntime) -> Result<(), Fail> {
     let mut memory = SerialMemory::new(rt.alloc(), &[(3, 5), (4, 1), (3, 6)])?;
-    assert_eq!(rt; memory.value(3), 6);
+    check_equal(&rt, memory.value(3), 6);
     let acts = [
         (3, Op::Faa(4294967295), Reply::Value(6)),
         (3, Op::Swap(9), Reply::Value(5)),
@@ -147,7 +153,7 @@ fn serial_memory(rt: HostRuntime) -> Result<(), Fail> {
     ];
     check_acts(&rt, &mut memory, &acts)?;
     for (cell, word) in [(3, 2), (4, 1), (7, 2)] {
-        assert_eq!(rt; memory.value(cell), word, "at {cell}");
+        check_equal_for(&rt, memory.value(cell), word, format_args!("at {cell}"));
     }
     Ok(())
 }
@@ -162,7 +168,12 @@ fn check_order(
     assert!(rt; cycles <= 1000);
     let config = one_stage(rt.alloc(), Vec::new(rt.alloc()))?;
     let list = order(rt.alloc(), &config, program, cycles)?;
-    assert_eq!(rt; list.as_slice(), expected, "after {cycles}");
+    check_equal_for(
+        rt,
+        list.as_slice(),
+        expected,
+        format_args!("after {cycles}"),
+    );
     Ok(())
 }
 
@@ -181,7 +192,7 @@ fn load_then_store(rt: HostRuntime) -> Result<(), Fail> {
         done(1, Op::Store(7), Reply::Ack),
         done(0, Op::Load, Reply::Value(7)),
     ];
-    assert_eq!(rt; list.as_slice(), expected.as_slice());
+    check_equal(&rt, list.as_slice(), expected.as_slice());
     Ok(())
 }
 
@@ -214,8 +225,8 @@ fn nothing_served_yet(rt: HostRuntime) -> Result<(), Fail> {
 
 /// Asserts that two logs are the same.
 fn same_logs(rt: &impl Abort, a: &Log, b: &Log) {
-    assert_eq!(rt; a.issues.as_slice(), b.issues.as_slice());
-    assert_eq!(rt; a.answers.as_slice(), b.answers.as_slice());
+    check_equal(rt, a.issues.as_slice(), b.issues.as_slice());
+    check_equal(rt, a.answers.as_slice(), b.answers.as_slice());
 }
 
 #[test]

@@ -1,5 +1,6 @@
 //! All pairs of operations, and the greatest numbers.
 
+use crate::equal::{check_equal, check_equal_for};
 use std::process::Abort;
 use ultra_msg::{Give, Op, Paired, Register, Reply, Shift, pair};
 
@@ -194,19 +195,34 @@ const MEETINGS: [Meeting; 17] = [
 fn check_answers(rt: &impl Abort, meeting: &Meeting, paired: Paired) {
     let name = meeting.name;
     let to_old = paired.give_old.of(meeting.reply);
-    assert_eq!(rt; to_old, meeting.to_old, "to old in {name}");
+    check_equal_for(rt, to_old, meeting.to_old, format_args!("to old in {name}"));
     let to_new = paired.give_new.of(meeting.reply);
-    assert_eq!(rt; to_new, meeting.to_new, "to new in {name}");
+    check_equal_for(rt, to_new, meeting.to_new, format_args!("to new in {name}"));
 }
 
 /// Asserts what is sent for a pair, and which of the two goes first.
 fn check_meeting(rt: &impl Abort, meeting: &Meeting) {
     let name = meeting.name;
     let paired = pair(meeting.old, meeting.new);
-    assert_eq!(rt; paired.sent, meeting.sent, "sent in {name}");
-    assert_eq!(rt; paired.old_first, meeting.old_first, "first in {name}");
+    check_equal_for(
+        rt,
+        paired.sent,
+        meeting.sent,
+        format_args!("sent in {name}"),
+    );
+    check_equal_for(
+        rt,
+        paired.old_first,
+        meeting.old_first,
+        format_args!("first in {name}"),
+    );
     let old_first = paired.give_old.old_goes_first();
-    assert_eq!(rt; old_first, meeting.old_first, "first in {name}");
+    check_equal_for(
+        rt,
+        old_first,
+        meeting.old_first,
+        format_args!("first in {name}"),
+    );
     check_answers(rt, meeting, paired);
 }
 
@@ -219,33 +235,36 @@ fn all_pairs(rt: HostRuntime) {
 
 #[test]
 fn sums_of_a_store_wrap_around(rt: HostRuntime) {
-    assert_eq!(rt;
+    check_equal(
+        &rt,
         pair(Op::Store(5), Op::Faa(4294967295)),
         Paired {
             sent: Op::Store(4),
             give_old: Give::Ack,
             give_new: Give::Fixed(5),
             old_first: true,
-        }
+        },
     );
-    assert_eq!(rt;
+    check_equal(
+        &rt,
         pair(Op::Faa(5), Op::Store(4294967295)),
         Paired {
             sent: Op::Store(4),
             give_old: Give::Fixed(4294967295),
             give_new: Give::Ack,
             old_first: false,
-        }
+        },
     );
 }
 
 #[test]
 fn greatest_numbers(rt: HostRuntime) {
-    assert_eq!(rt;
+    check_equal(
+        &rt,
         Register::new(15).map(|register| register.index()),
-        Some(15)
+        Some(15),
     );
     assert!(rt; Register::new(16).is_none());
-    assert_eq!(rt; Shift::new(31).map(|shift| shift.bits()), Some(31));
+    check_equal(&rt, Shift::new(31).map(|shift| shift.bits()), Some(31));
     assert!(rt; Shift::new(32).is_none());
 }

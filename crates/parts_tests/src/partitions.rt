@@ -1,5 +1,6 @@
 //! The lines of a machine's cycles are the same in every partition, by every number of workers.
 
+use std::alloc::Global;
 use std::process::Abort;
 use std::sync::Wait;
 use std::test::Fail;
@@ -29,6 +30,20 @@ fn make_and_write_ten<R: Threads + Wait + Sync + Abort + AllocGlobal>(
     Ok(())
 }
 
+/// The machine of `two_level_tree`, cut so, before its first cycle.
+fn blocks_of(alloc: Global, partition: &[u8]) -> Result<Blocks, Fail> {
+    let config = config(alloc, 2)?;
+    let program = add_number(alloc)?;
+    Ok(Blocks::new(alloc, &config, &program, partition)?)
+}
+
+/// Asserts that these are the lines of the trace of `two_level_tree`.
+fn check_trace<R: Abort + AllocGlobal>(rt: &R, cycles: &str) -> Result<(), Fail> {
+    let trace = format!(in rt.alloc(); "ultra trace 2\n{cycles}end quiet\n")?;
+    assert!(rt; TWO_LEVEL_TREE.starts_with(trace.as_str()), "{trace}");
+    Ok(())
+}
+
 /// Asserts that ten cycles of the machine of `two_level_tree`, cut so and made by these workers,
 /// have that trace's lines.
 fn check_lines<R: Threads + Wait + Sync + Abort + AllocGlobal>(
@@ -36,15 +51,9 @@ fn check_lines<R: Threads + Wait + Sync + Abort + AllocGlobal>(
     partition: &[u8],
     workers: usize,
 ) -> Result<(), Fail> {
-    let config = config(rt.alloc(), 2)?;
-    let program = add_number(rt.alloc())?;
-    let blocks = Blocks::new(rt.alloc(), &config, &program, partition)?;
     let mut out = MemorySink::new(rt.alloc())?;
-    make_and_write_ten(rt, blocks, workers, &mut out)?;
-    let cycles = out.text()?;
-    let trace = format!(in rt.alloc(); "ultra trace 2\n{cycles}end quiet\n")?;
-    assert!(rt; TWO_LEVEL_TREE.starts_with(trace.as_str()), "{trace}");
-    Ok(())
+    make_and_write_ten(rt, blocks_of(rt.alloc(), partition)?, workers, &mut out)?;
+    check_trace(rt, out.text()?)
 }
 
 /// Asserts the same by 1, 2, 3 and 64 workers.

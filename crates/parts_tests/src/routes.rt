@@ -2,6 +2,7 @@
 
 ghost use Rattle.std.specs.Prelude.{◌<◌};
 
+use crate::equal::{check_equal, check_equal_for};
 use std::process::Abort;
 use std::test::Fail;
 use ultra_route::{Net, RouteFault};
@@ -42,19 +43,26 @@ fn line(rt: &impl Abort, net: Net, stage: u32) -> u32 {
 /// Asserts how the way of processing element 6 and module 3 leads through a stage, there and back:
 /// from a line to this position, and on to the next line.
 fn check_stage(rt: &impl Abort, net: Net, stage: u32, before: u32, position: u32) {
-    assert_eq!(rt; entered(rt, net, before), position, "into stage {stage}");
+    check_equal_for(
+        rt,
+        entered(rt, net, before),
+        position,
+        format_args!("into stage {stage}"),
+    );
     let left = line(rt, net, stage.saturating_add(1));
-    assert_eq!(rt;
+    check_equal_for(
+        rt,
         left % 2,
         port_there(rt, net, stage),
-        "out of stage {stage}"
+        format_args!("out of stage {stage}"),
     );
     let back = left / 2 * 2 + port_back(rt, net, stage);
-    assert_eq!(rt; back, position, "back into stage {stage}");
-    assert_eq!(rt;
+    check_equal_for(rt, back, position, format_args!("back into stage {stage}"));
+    check_equal_for(
+        rt,
         entering(rt, net, position),
         before,
-        "back before stage {stage}"
+        format_args!("back before stage {stage}"),
     );
 }
 
@@ -62,13 +70,18 @@ fn check_stage(rt: &impl Abort, net: Net, stage: u32, before: u32, position: u32
 #[test]
 fn route_example(rt: HostRuntime) -> Result<(), Fail> {
     let net = Net::new(3)?;
-    assert_eq!(rt; net.stages(), 3);
-    assert_eq!(rt; net.size(), 8);
+    check_equal(&rt, net.stages(), 3);
+    check_equal(&rt, net.size(), 8);
     for (stage, before, position) in [(0, 6, 5), (1, 4, 1), (2, 1, 2)] {
-        assert_eq!(rt; line(&rt, net, stage), before, "before stage {stage}");
+        check_equal_for(
+            &rt,
+            line(&rt, net, stage),
+            before,
+            format_args!("before stage {stage}"),
+        );
         check_stage(&rt, net, stage, before, position);
     }
-    assert_eq!(rt; line(&rt, net, 3), 3);
+    check_equal(&rt, line(&rt, net, 3), 3);
     Ok(())
 }
 
@@ -76,6 +89,11 @@ fn route_example(rt: HostRuntime) -> Result<(), Fail> {
 fn stages_out_of_range(rt: HostRuntime) {
     for stages in [0, 7] {
         let fault = Net::new(stages).err();
-        assert_eq!(rt; fault, Some(RouteFault::StagesOutOfRange), "at {stages}");
+        check_equal_for(
+            &rt,
+            fault,
+            Some(RouteFault::StagesOutOfRange),
+            format_args!("at {stages}"),
+        );
     }
 }

@@ -1,5 +1,6 @@
 //! The settings of a machine: the ends of their ranges, and what is refused.
 
+use crate::equal::{check_equal, check_equal_for};
 use std::alloc::Global;
 use std::process::Abort;
 use std::test::Fail;
@@ -22,7 +23,7 @@ fn check_refused(
     field: Field,
 ) -> Result<(), Fail> {
     let refused = refusal(rt.alloc(), &raw)?;
-    assert_eq!(rt; refused, Some(field));
+    check_equal(rt, refused, Some(field));
     Ok(())
 }
 
@@ -58,8 +59,8 @@ fn most(initial: Vec<(i64, i64)>) -> RawSettings {
 fn least_ends_of_the_ranges_are_accepted(rt: HostRuntime) -> Result<(), Fail> {
     let raw = least(vec![in rt.alloc(); (1, 4294967295), (0, 0)]?);
     let config = Config::new(rt.alloc(), &raw)?;
-    assert_eq!(rt; config.initial(), [(1, 4294967295), (0, 0)].as_slice());
-    assert_eq!(rt; config.all_cells(), 2);
+    check_equal(&rt, config.initial(), [(1, 4294967295), (0, 0)].as_slice());
+    check_equal(&rt, config.all_cells(), 2);
     Ok(())
 }
 
@@ -67,8 +68,8 @@ fn least_ends_of_the_ranges_are_accepted(rt: HostRuntime) -> Result<(), Fail> {
 fn greatest_ends_of_the_ranges_are_accepted(rt: HostRuntime) -> Result<(), Fail> {
     let raw = most(vec![in rt.alloc(); (8191, 7)]?);
     let config = Config::new(rt.alloc(), &raw)?.try_clone()?;
-    assert_eq!(rt; config.cycles(), 1_000_000);
-    assert_eq!(rt; config.initial().len(), 1);
+    check_equal(&rt, config.cycles(), 1_000_000);
+    check_equal(&rt, config.initial().len(), 1);
     Ok(())
 }
 
@@ -142,7 +143,12 @@ const ENDS: [(Field, i64); 14] = [
 fn each_end_of_a_range_is_accepted(rt: HostRuntime) -> Result<(), Fail> {
     for (field, number) in ENDS {
         let raw = settings_with(rt.alloc(), field, number);
-        assert_eq!(rt; refusal(rt.alloc(), &raw)?, None, "{number}");
+        check_equal_for(
+            &rt,
+            refusal(rt.alloc(), &raw)?,
+            None,
+            format_args!("{number}"),
+        );
     }
     Ok(())
 }
@@ -206,6 +212,6 @@ fn initial_cells_are_checked(rt: HostRuntime) -> Result<(), Fail> {
 #[test]
 fn names_are_as_they_are_written(rt: HostRuntime) -> Result<(), Fail> {
     let text = format!(in rt.alloc(); "{}", ConfigFault::BadConfig(Field::MostOpen))?;
-    assert_eq!(rt; text.as_str(), "bad open");
+    check_equal(&rt, text.as_str(), "bad open");
     Ok(())
 }

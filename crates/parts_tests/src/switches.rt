@@ -1,6 +1,7 @@
 //! One switch: a pair that combines and splits, a reply that waits, and the largest switch, as full
 //! as it gets.
 
+use crate::equal::check_equal;
 use std::process::Abort;
 use std::test::Fail;
 use test_support::{answer, faa};
@@ -10,17 +11,17 @@ use ultra_switch::{Arrived, Split, Switch, ToMm, ToPe};
 /// Two additions of 1 arrive. The second combines with the first.
 fn pair_arrives(rt: &impl Abort, requests: &mut ToMm) {
     assert!(rt; requests.has_room());
-    assert_eq!(rt; requests.arrive(faa(1, 1)), Arrived::Appended);
+    check_equal(rt, requests.arrive(faa(1, 1)), Arrived::Appended);
     assert!(rt; requests.has_room());
-    assert_eq!(rt; requests.arrive(faa(0, 1)), Arrived::CombinedWith(1));
+    check_equal(rt, requests.arrive(faa(0, 1)), Arrived::CombinedWith(1));
 }
 
 /// One addition of 2 leaves for both, and its reply is split.
 fn pair_is_answered(rt: &impl Abort, requests: &mut ToMm) {
     let sent = requests.leave().expect(rt, "nothing was sent");
-    assert_eq!(rt; sent.op, Op::Faa(2));
+    check_equal(rt, sent.op, Op::Faa(2));
     let split = requests.split(answer(1, 0));
-    assert_eq!(rt; split, Split::Two(answer(1, 0), answer(0, 1)));
+    check_equal(rt, split, Split::Two(answer(1, 0), answer(0, 1)));
     assert!(rt; requests.is_idle());
 }
 
@@ -37,8 +38,8 @@ fn pair_combines_and_splits(rt: HostRuntime) -> Result<(), Fail> {
 fn reply_goes_through(rt: &impl Abort, replies: &mut ToPe, reply: ReplyMessage) {
     assert!(rt; replies.has_room());
     replies.put(reply);
-    assert_eq!(rt; replies.head(), Some(reply));
-    assert_eq!(rt; replies.leave(), Some(reply));
+    check_equal(rt, replies.head(), Some(reply));
+    check_equal(rt, replies.leave(), Some(reply));
     assert!(rt; replies.is_empty());
 }
 
@@ -72,13 +73,13 @@ fn own_number(pe: Pe, cell: Cell) -> ReplyMessage {
 fn records_fill(rt: &impl Abort, requests: &mut ToMm) {
     for cell in 0..16 {
         assert!(rt; requests.has_room(), "at {cell}");
-        assert_eq!(rt; requests.arrive(load(0, cell)), Arrived::Appended);
+        check_equal(rt, requests.arrive(load(0, cell)), Arrived::Appended);
     }
     for cell in 0..16 {
         assert!(rt; requests.has_room(), "at {cell}");
-        assert_eq!(rt; requests.arrive(load(1, cell)), Arrived::CombinedWith(0));
+        check_equal(rt, requests.arrive(load(1, cell)), Arrived::CombinedWith(0));
     }
-    assert_eq!(rt; requests.record_count(), 16);
+    check_equal(rt, requests.record_count(), 16);
 }
 
 /// Two loads a cell arrive behind them as long as two places are free. They don't combine, since no
@@ -87,24 +88,28 @@ fn requests_fill(rt: &impl Abort, requests: &mut ToMm) {
     for number in 0..15 {
         assert!(rt; requests.has_room(), "at {number}");
         let request = load(number % 2, 16 + number / 2);
-        assert_eq!(rt; requests.arrive(request), Arrived::Appended);
+        check_equal(rt, requests.arrive(request), Arrived::Appended);
     }
-    assert_eq!(rt; requests.len(), 31);
+    check_equal(rt, requests.len(), 31);
     assert!(rt; !requests.has_room());
 }
 
 /// The requests leave in order, and each reply to one that has combined is split.
 fn requests_are_answered(rt: &impl Abort, requests: &mut ToMm) {
     for cell in 0..16 {
-        assert_eq!(rt; requests.leave(), Some(load(0, cell)));
+        check_equal(rt, requests.leave(), Some(load(0, cell)));
     }
     for number in 0..15 {
         let request = load(number % 2, 16 + number / 2);
-        assert_eq!(rt; requests.leave(), Some(request));
+        check_equal(rt, requests.leave(), Some(request));
     }
     for cell in 0..16 {
         let split = requests.split(own_number(0, cell));
-        assert_eq!(rt; split, Split::Two(own_number(0, cell), own_number(1, cell)));
+        check_equal(
+            rt,
+            split,
+            Split::Two(own_number(0, cell), own_number(1, cell)),
+        );
     }
     assert!(rt; requests.is_idle());
 }
@@ -117,7 +122,7 @@ fn replies_fill(rt: &impl Abort, replies: &mut ToPe) {
     }
     assert!(rt; !replies.has_room());
     for word in 0..61 {
-        assert_eq!(rt; replies.leave(), Some(answer(0, word)));
+        check_equal(rt, replies.leave(), Some(answer(0, word)));
     }
     assert!(rt; replies.is_empty());
 }

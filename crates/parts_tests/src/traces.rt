@@ -2,6 +2,7 @@
 
 ghost use Rattle.std.specs.Prelude.{◌<◌};
 
+use crate::equal::{check_equal, check_equal_for};
 use std::process::Abort;
 use std::sync::Wait;
 use std::sync::atomic::Ordering;
@@ -41,7 +42,7 @@ fn check_run<R: Threads + Wait + Sync + Abort + AllocGlobal, G: Gate + Sync>(
 ) -> Result<(), Fail> {
     let mut out = MemorySink::new(rt.alloc())?;
     run_by(rt, config, program, workers, gate, &mut out)?;
-    assert_eq!(rt; out.text()?, wanted, "by {workers}");
+    check_equal_for(rt, out.text()?, wanted, format_args!("by {workers}"));
     Ok(())
 }
 
@@ -77,7 +78,7 @@ fn any_workers(rt: HostRuntime) -> Result<(), Fail> {
     let program = add_number(rt.alloc())?;
     let calls = check_runs(&rt, &config, &program, &[1, 2, 3, 64], TWO_LEVEL_TREE)?;
     // 2, 3 and 12 blocks, as many as units at most, 6 halves and 10 cycles
-    assert_eq!(rt; calls, (2 + 3 + 12) * 6 * 10);
+    check_equal(&rt, calls, (2 + 3 + 12) * 6 * 10);
     Ok(())
 }
 
@@ -103,15 +104,15 @@ fn gate_meets(rt: HostRuntime) -> Result<(), Fail> {
     let program = add_one(rt.alloc())?;
     let meeting = Meeting::new();
     check_run(&rt, &config, &program, 2, &meeting, COMBINED_PAIR)?;
-    assert_eq!(rt; meeting.halves_met(), Some(8 * 6));
+    check_equal(&rt, meeting.halves_met(), Some(8 * 6));
     Ok(())
 }
 
 /// A failing sink took this many bytes of the trace, and after the fault nothing was offered.
 fn ends_in_a_fault<R: Abort>(rt: &R, out: &MemorySink, taken: usize) -> Result<(), Fail> {
     assert!(rt; COMBINED_PAIR.starts_with(out.text()?), "after {taken}");
-    assert_eq!(rt; out.bytes.len(), taken);
-    assert_eq!(rt; out.failures, 1);
+    check_equal(rt, out.bytes.len(), taken);
+    check_equal(rt, out.failures, 1);
     Ok(())
 }
 
@@ -192,7 +193,7 @@ fn check_short_run<R: Threads + Wait + Sync + Abort + AllocGlobal>(
     let ended = short_run(rt, workers, &mut out);
     assert!(rt; COMBINED_PAIR.as_bytes().starts_with(out.bytes.as_slice()));
     ended?;
-    assert_eq!(rt; out.text()?, COMBINED_PAIR);
+    check_equal(rt, out.text()?, COMBINED_PAIR);
     Ok(())
 }
 

@@ -1,5 +1,6 @@
 //! An explainer beside a machine.
 
+use crate::equal::{check_equal, check_equal_for};
 use crate::events::{explainer, settings};
 use crate::heaps::bytes_after;
 use linked_list_allocator::LocalHeap;
@@ -103,7 +104,7 @@ fn is_refused<A: Allocator + Clone>(
     let Err(fault) = explainer.absorb(event) else {
         return false;
     };
-    assert_eq!(rt; fault, ExplainFault::Full);
+    check_equal(rt, fault, ExplainFault::Full);
     let next = explainer.absorb(event);
     assert!(rt; matches!(next, Err(ExplainFault::Spent)));
     true
@@ -144,10 +145,20 @@ fn run_beside<R: Abort, A: Allocator + Clone>(
         assert!(rt; blocks.is_in_one_block());
         if cycle <= 3 {
             let refused = has_refused(rt, explainer, blocks.events_of_one());
-            assert_eq!(rt; refused, cycle == 3, "in cycle {cycle}");
+            check_equal_for(rt, refused, cycle == 3, format_args!("in cycle {cycle}"));
         }
     }
     Ok(())
+}
+
+/// The same with an explainer whose heap has room for it alone.
+fn run_beside_full_heap<R: Abort + AllocGlobal>(
+    rt: &R,
+    blocks: &mut Blocks,
+    out: &mut MemorySink,
+) -> Result<(), Fail> {
+    let heap = LocalHeap::new(rt.alloc(), bytes_after(rt, 0))?;
+    run_beside(rt, blocks, &mut explainer(rt, &heap), out)
 }
 
 /// In a heap with room for an explainer alone the first combination is refused, and so is what
@@ -155,10 +166,8 @@ fn run_beside<R: Abort, A: Allocator + Clone>(
 #[test]
 fn explainer_without_memory(rt: HostRuntime) -> Result<(), Fail> {
     let mut blocks = machine(&rt)?;
-    let heap = LocalHeap::new(rt.alloc(), bytes_after(&rt, 0))?;
-    let mut explainer = explainer(&rt, &heap);
     let mut out = MemorySink::new(rt.alloc())?;
-    run_beside(&rt, &mut blocks, &mut explainer, &mut out)?;
-    assert_eq!(&rt; out.bytes.as_slice(), TWO_LEVEL_TREE.as_bytes());
+    run_beside_full_heap(&rt, &mut blocks, &mut out)?;
+    check_equal(&rt, out.bytes.as_slice(), TWO_LEVEL_TREE.as_bytes());
     Ok(())
 }

@@ -1,5 +1,6 @@
 //! Explainers whose heap refuses memory.
 
+use crate::equal::check_equal;
 use crate::events::{absorb, absorb_all, all_combined, explainer, issue, settings};
 use linked_list_allocator::LocalHeap;
 use std::process::Abort;
@@ -12,7 +13,7 @@ pub(crate) fn bytes_after<R: AllocGlobal + Abort>(rt: &R, events: usize) -> usiz
     let mut explainer = explainer(rt, &heap);
     let run = all_combined();
     let first = run.get(..events).expect(rt, "too many events");
-    assert_eq!(rt; absorb_all(rt, &mut explainer, first), events);
+    check_equal(rt, absorb_all(rt, &mut explainer, first), events);
     heap.used()
 }
 
@@ -27,8 +28,8 @@ fn bytes_of_half<R: AllocGlobal + Abort>(rt: &R) -> usize {
 fn check_full<R: AllocGlobal + Abort>(rt: &R, bytes: usize, events: usize) {
     let heap = LocalHeap::new(rt.alloc(), bytes).expect(rt, "no memory");
     let mut explainer = explainer(rt, &heap);
-    assert_eq!(rt; absorb_all(rt, &mut explainer, &all_combined()), events);
-    assert_eq!(rt; heap.used(), bytes_after(rt, 0));
+    check_equal(rt, absorb_all(rt, &mut explainer, &all_combined()), events);
+    check_equal(rt, heap.used(), bytes_after(rt, 0));
     let later = absorb(rt, &mut explainer, &issue(0, 1, 1));
     assert!(rt; matches!(later, Err(ExplainFault::Spent)));
 }

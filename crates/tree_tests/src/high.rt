@@ -1,5 +1,6 @@
 //! Trees that are higher than those of any machine.
 
+use crate::equal::check_equal;
 use crate::events::{absorb, absorb_all, issue, meeting, serve, settings};
 use linked_list_allocator::LocalHeap;
 use std::alloc::Allocator;
@@ -16,7 +17,7 @@ fn grow<A: Allocator + Clone>(rt: &impl Abort, explainer: &mut Explainer<A>, lev
     assert!(rt; absorb(rt, explainer, &issue(0, 0, 1)).is_ok());
     for number in 0..levels {
         let level = [issue(1, number, 1), meeting(0, 0, 0, 1)];
-        assert_eq!(rt; absorb_all(rt, explainer, &level), 2);
+        check_equal(rt, absorb_all(rt, explainer, &level), 2);
     }
 }
 
@@ -40,11 +41,11 @@ fn check_high_leaves<R: Abort + AllocGlobal, A: Allocator>(
     first: Leaf,
     last: Leaf,
 ) -> Result<(), Fail> {
-    assert_eq!(rt; height(tree), 2000);
+    check_equal(rt, height(tree), 2000);
     let all = leaves(rt.alloc(), tree)?;
-    assert_eq!(rt; all.len(), 2001);
-    assert_eq!(rt; all.first().copied(), Some(first));
-    assert_eq!(rt; all.last().copied(), Some(last));
+    check_equal(rt, all.len(), 2001);
+    check_equal(rt, all.first().copied(), Some(first));
+    check_equal(rt, all.last().copied(), Some(last));
     Ok(())
 }
 
@@ -58,9 +59,10 @@ fn check_long_text<R: Abort + AllocGlobal, A: Allocator>(
 ) -> Result<(), Fail> {
     let mut sink = MemorySink::new(rt.alloc())?;
     assert!(rt; write_tree(tree, &mut sink).is_ok());
-    assert_eq!(rt; sink.bytes.len(), length);
-    assert!(rt; sink.text()?.starts_with(beginning));
-    assert!(rt; sink.text()?.ends_with(end));
+    let text = sink.text()?;
+    check_equal(rt, text.len(), length);
+    assert!(rt; text.starts_with(beginning));
+    assert!(rt; text.ends_with(end));
     Ok(())
 }
 
@@ -92,20 +94,29 @@ fn grow_at_new<A: Allocator + Clone>(rt: &impl Abort, explainer: &mut Explainer<
     for number in 0..levels {
         let (old, new) = if number % 2 == 0 { (1, 0) } else { (0, 1) };
         let level = [issue(old, number, 1), meeting(0, 0, old, new)];
-        assert_eq!(rt; absorb_all(rt, explainer, &level), 2);
+        check_equal(rt, absorb_all(rt, explainer, &level), 2);
     }
 }
 
-/// The same where the new part of each pair is the larger.
+/// A tree of this height where the new part of each pair is the larger. Its memory has to be there.
+fn high_tree_at_new<A: Allocator + Clone>(
+    rt: &impl Abort,
+    settings: &Config,
+    alloc: A,
+    levels: u32,
+) -> Tree<A> {
+    let mut explainer = Explainer::new(settings, alloc).expect(rt, "no memory");
+    grow_at_new(rt, &mut explainer, levels);
+    let tree = serve(rt, &mut explainer, 0, 1);
+    assert!(rt; explainer.tree_of(0, 0).is_none());
+    tree
+}
+
+/// A drop that called itself for the new parts alone would need more stack than there is.
 #[test]
 fn a_tree_that_is_high_at_its_new_parts_is_dropped(rt: HostRuntime) -> Result<(), Fail> {
     let heap = LocalHeap::new(rt.alloc(), 1 << 26)?;
-    let settings = settings(&rt, 2)?;
-    let mut explainer = Explainer::new(&settings, &heap).expect(&rt, "no memory");
-    grow_at_new(&rt, &mut explainer, 200_000);
-    let tree = serve(&rt, &mut explainer, 0, 1);
-    assert!(&rt; explainer.tree_of(0, 0).is_none());
-    drop(tree);
+    drop(high_tree_at_new(&rt, &settings(&rt, 2)?, &heap, 200_000));
     Ok(())
 }
 
@@ -113,10 +124,7 @@ fn a_tree_that_is_high_at_its_new_parts_is_dropped(rt: HostRuntime) -> Result<()
 #[test]
 fn a_tree_that_is_high_at_its_new_parts(rt: HostRuntime) -> Result<(), Fail> {
     let heap = LocalHeap::new(rt.alloc(), 1 << 20)?;
-    let settings = settings(&rt, 2)?;
-    let mut explainer = Explainer::new(&settings, &heap).expect(&rt, "no memory");
-    grow_at_new(&rt, &mut explainer, 2000);
-    let tree = serve(&rt, &mut explainer, 0, 1);
+    let tree = high_tree_at_new(&rt, &settings(&rt, 2)?, &heap, 2000);
     check_high_leaves(&rt, &tree, leaf(0, 1999), leaf(0, 0))?;
     let beginning = "[s0x0 0.1999 < [s0x0 1.1998 < [s0x0 0.1997 < ";
     let end = "]".repeat(rt.alloc(), 2000)?;
@@ -139,6 +147,6 @@ fn leaves_are_refused_or_whole(rt: HostRuntime) -> Result<(), Fail> {
     let tree = high_tree(&rt, &settings(&rt, 2)?, &heap, 4);
     let in_order = [leaf(0, 0), leaf(1, 0), leaf(1, 1), leaf(1, 2), leaf(1, 3)];
     let all = leaves(rt.alloc(), &tree)?;
-    assert_eq!(&rt; all.as_slice(), in_order.as_slice());
+    check_equal(&rt, all.as_slice(), in_order.as_slice());
     Ok(())
 }

@@ -4,6 +4,8 @@
 #[cfg(test)]
 mod beside;
 #[cfg(test)]
+mod equal;
+#[cfg(test)]
 mod events;
 #[cfg(test)]
 mod heaps;

@@ -1,5 +1,6 @@
 //! Walks over the nodes of a tree.
 
+use crate::equal::check_equal;
 use crate::events::{absorb_all, all_combined, explainer, issue, serve};
 use linked_list_allocator::LocalHeap;
 use std::alloc::Allocator;
@@ -48,7 +49,7 @@ fn check_walk<R: Abort + AllocGlobal, A: Allocator>(rt: &R, tree: &Tree<A>, want
     let mut next = Some(tree.node());
     for &step in wanted {
         match next.expect(rt, "no node") {
-            Node::Leaf { pe, number, op } => assert_eq!(rt; Step::Leaf { pe, number, op }, step),
+            Node::Leaf { pe, number, op } => check_equal(rt, Step::Leaf { pe, number, op }, step),
             Node::Pair {
                 stage,
                 position,
@@ -61,7 +62,7 @@ fn check_walk<R: Abort + AllocGlobal, A: Allocator>(rt: &R, tree: &Tree<A>, want
                     position,
                     old_first,
                 };
-                assert_eq!(rt; pair, step);
+                check_equal(rt, pair, step);
                 waiting.push(new).expect(rt, "no memory");
                 waiting.push(old).expect(rt, "no memory");
             }
@@ -75,7 +76,7 @@ fn check_walk<R: Abort + AllocGlobal, A: Allocator>(rt: &R, tree: &Tree<A>, want
 fn a_walk_over_two_levels(rt: HostRuntime) -> Result<(), Fail> {
     let heap = LocalHeap::new(rt.alloc(), 16384)?;
     let mut explainer = explainer(&rt, &heap);
-    assert_eq!(&rt; absorb_all(&rt, &mut explainer, &all_combined()), 7);
+    check_equal(&rt, absorb_all(&rt, &mut explainer, &all_combined()), 7);
     let tree = serve(&rt, &mut explainer, 2, 10);
     let steps = [
         pair(1, 0),
@@ -104,7 +105,7 @@ fn a_walk_over_a_pair_whose_new_part_comes_first(rt: HostRuntime) -> Result<(), 
         old_first: false,
     };
     let events = [issue(3, 0, 4), issue(1, 0, 2), combined];
-    assert_eq!(&rt; absorb_all(&rt, &mut explainer, &events), 3);
+    check_equal(&rt, absorb_all(&rt, &mut explainer, &events), 3);
     let tree = serve(&rt, &mut explainer, 3, 6);
     let new_first = Step::Pair {
         stage: 1,

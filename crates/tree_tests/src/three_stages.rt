@@ -1,6 +1,7 @@
 //! Eight requests that become one over three stages, beside the machine that combines them.
 
 use crate::beside::{program_of, register};
+use crate::equal::check_equal_for;
 use crate::events::{explainer_of, settings};
 use crate::trees::{check_leaves, check_text, leaf};
 use linked_list_allocator::LocalHeap;
@@ -66,7 +67,29 @@ fn run_cycle<A: Allocator + Clone>(
     act
 }
 
-/// One act serves all eight, with a tree of height 3. The replies are 0 to 7 in the serial order.
+/// Asserts that the act of all eight, with a tree of height 3, is in cycle 7 alone.
+fn check_act<R: Abort + AllocGlobal, A: Allocator>(rt: &R, cycle: u32, act: Option<Tree<A>>) {
+    check_equal_for(
+        rt,
+        act.is_some(),
+        cycle == 7,
+        format_args!("in cycle {cycle}"),
+    );
+    if let Some(tree) = act {
+        check_leaves(rt, &tree, &ANSWERED.map(|(pe, _)| leaf(pe, 1)), 3);
+        check_text(rt, &tree, TEXT);
+    }
+}
+
+/// Asserts the replies, by the numbers of the processing elements: 0 to 7 in the serial order.
+fn check_replies(rt: &impl Abort, replies: &[Option<Reply>]) {
+    for (pe, word) in ANSWERED {
+        let reply = replies.get(pe as usize).copied().flatten();
+        check_equal_for(rt, reply, Some(Reply::Value(word)), format_args!("of {pe}"));
+    }
+}
+
+/// One act serves all eight.
 #[test]
 fn eight_requests_become_one(rt: HostRuntime) -> Result<(), Fail> {
     let heap = LocalHeap::new(rt.alloc(), 16384)?;
@@ -74,16 +97,12 @@ fn eight_requests_become_one(rt: HostRuntime) -> Result<(), Fail> {
     let mut blocks = machine(&rt)?;
     let mut replies = [None; 8];
     for cycle in 0..12 {
-        let act = run_cycle(&rt, &mut blocks, &mut explainer, &mut replies);
-        assert_eq!(&rt; act.is_some(), cycle == 7, "in cycle {cycle}");
-        if let Some(tree) = act {
-            check_leaves(&rt, &tree, &ANSWERED.map(|(pe, _)| leaf(pe, 1)), 3);
-            check_text(&rt, &tree, TEXT);
-        }
+        check_act(
+            &rt,
+            cycle,
+            run_cycle(&rt, &mut blocks, &mut explainer, &mut replies),
+        );
     }
-    for (pe, word) in ANSWERED {
-        let reply = replies.get(pe as usize).copied().flatten();
-        assert_eq!(&rt; reply, Some(Reply::Value(word)), "of {pe}");
-    }
+    check_replies(&rt, &replies);
     Ok(())
 }

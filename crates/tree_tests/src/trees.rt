@@ -1,5 +1,6 @@
 //! The tree of a worked run, and which events an explainer accepts.
 
+use crate::equal::{check_equal, check_equal_for};
 use crate::events::{absorb, absorb_all, all_combined, explainer, issue, meeting, serve, serving};
 use linked_list_allocator::LocalHeap;
 use std::alloc::Allocator;
@@ -26,7 +27,12 @@ fn check_held<A: Allocator + Clone>(
 ) {
     for &(pe, cell, is_held) in wanted {
         let tree = explainer.tree_of(pe, cell);
-        assert_eq!(rt; tree.is_some(), is_held, "of {pe} for {cell}");
+        check_equal_for(
+            rt,
+            tree.is_some(),
+            is_held,
+            format_args!("of {pe} for {cell}"),
+        );
     }
 }
 
@@ -37,9 +43,9 @@ pub(crate) fn check_leaves<R: Abort + AllocGlobal, A: Allocator>(
     wanted: &[Leaf],
     levels: u64,
 ) {
-    assert_eq!(rt; height(tree), levels);
+    check_equal(rt, height(tree), levels);
     let all = leaves(rt.alloc(), tree).expect(rt, "no memory");
-    assert_eq!(rt; all.as_slice(), wanted);
+    check_equal(rt, all.as_slice(), wanted);
 }
 
 /// Asserts that a tree is written as this text, into a sink that takes all.
@@ -50,7 +56,7 @@ pub(crate) fn check_text<R: Abort + AllocGlobal, A: Allocator>(
 ) {
     let mut sink = MemorySink::new(rt.alloc()).expect(rt, "no memory");
     assert!(rt; write_tree(tree, &mut sink).is_ok());
-    assert_eq!(rt; sink.bytes.as_slice(), wanted);
+    check_equal(rt, sink.bytes.as_slice(), wanted);
 }
 
 /// Asserts that of a tree this beginning is written into a sink that fails after this many writes.
@@ -62,9 +68,9 @@ fn check_beginning<R: Abort + AllocGlobal, A: Allocator>(
 ) {
     let limits = SinkLimits::none().failing_after(sound_writes);
     let mut sink = MemorySink::with_limits(rt.alloc(), limits).expect(rt, "no memory");
-    assert_eq!(rt; write_tree(tree, &mut sink), Err(SinkFault));
-    assert_eq!(rt; sink.bytes.as_slice(), wanted);
-    assert_eq!(rt; sink.failures, 1);
+    check_equal(rt, write_tree(tree, &mut sink), Err(SinkFault));
+    check_equal(rt, sink.bytes.as_slice(), wanted);
+    check_equal(rt, sink.failures, 1);
 }
 
 /// The tree is held under its first request alone, and its act gives it away with its memory.
@@ -73,7 +79,7 @@ fn two_level_tree(rt: HostRuntime) -> Result<(), Fail> {
     let heap = LocalHeap::new(rt.alloc(), 16384)?;
     let mut explainer = explainer(&rt, &heap);
     let of_none = heap.used();
-    assert_eq!(&rt; absorb_all(&rt, &mut explainer, &all_combined()), 7);
+    check_equal(&rt, absorb_all(&rt, &mut explainer, &all_combined()), 7);
     check_held(
         &rt,
         &explainer,
@@ -90,7 +96,7 @@ fn two_level_tree(rt: HostRuntime) -> Result<(), Fail> {
     check_text(&rt, &tree, b"[s1x0 [s0x0 2.0 < 0.0] < [s0x2 3.0 < 1.0]]");
     check_beginning(&rt, &tree, 3, b"[s1x0 [s0x0 2.0 < ");
     drop(tree);
-    assert_eq!(&rt; heap.used(), of_none);
+    check_equal(&rt, heap.used(), of_none);
     Ok(())
 }
 
@@ -101,7 +107,12 @@ fn check_accepts<A: Allocator + Clone>(
     wanted: &[(Event, bool)],
 ) {
     for (number, (event, is_accepted)) in wanted.iter().enumerate() {
-        assert_eq!(rt; explainer.accepts(event), *is_accepted, "event {number}");
+        check_equal_for(
+            rt,
+            explainer.accepts(event),
+            *is_accepted,
+            format_args!("event {number}"),
+        );
     }
 }
 

@@ -1,5 +1,6 @@
 //! Verdicts on lists. The expected lines are those of the reference program.
 
+use crate::equal::check_equal;
 use std::alloc::Global;
 use std::process::Abort;
 use std::test::Fail;
@@ -65,8 +66,8 @@ fn check_verdict(
     let list = read_list(rt.alloc(), text.as_bytes())?;
     let mut out = MemorySink::new(rt.alloc())?;
     let legal = write_verdict(rt.alloc(), config, program, list.as_slice(), &mut out)?;
-    assert_eq!(rt; out.text()?, expected);
-    assert_eq!(rt; legal, expected == "legal\n");
+    check_equal(rt, out.text()?, expected);
+    check_equal(rt, legal, expected == "legal\n");
     Ok(())
 }
 
@@ -185,7 +186,7 @@ fn failed_write(rt: HostRuntime) -> Result<(), Fail> {
     if written == Err(VerdictFault::NoMemory) {
         return Err("no memory".into());
     }
-    assert_eq!(&rt; written, Err(VerdictFault::Write));
-    assert_eq!(&rt; (out.bytes.len(), out.failures), (0, 1));
+    check_equal(&rt, written, Err(VerdictFault::Write));
+    check_equal(&rt, (out.bytes.len(), out.failures), (0, 1));
     Ok(())
 }
