@@ -7,8 +7,10 @@
 use crate::cells::{digest, of_machine};
 use crate::setup::{Setup, Sizes};
 use anyhow::bail;
+use std::alloc::Global;
 use std::rt::Files;
 use ultra_machine::Machine;
+use ultra_msg::Word;
 
 /// Makes `cycles` cycles, or as many as the machine can make.
 pub(crate) fn make_cycles(machine: &mut Machine, cycles: u32) {
@@ -20,6 +22,22 @@ pub(crate) fn make_cycles(machine: &mut Machine, cycles: u32) {
     }
 }
 
+/// Makes the cycles of a run, and gives how many these were and the digest of the cells.
+fn run(alloc: Global, setup: &Setup) -> anyhow::Result<(u32, Word)> {
+    let mut machine = Machine::new(alloc, &setup.config, &setup.program)?;
+    make_cycles(&mut machine, setup.cycles);
+    let cells = of_machine(alloc, &machine)?;
+    Ok((machine.done(), digest(cells.as_slice())))
+}
+
+/// The sizes of this name.
+fn sizes_named(name: &str) -> anyhow::Result<Sizes> {
+    match Sizes::named(name) {
+        Some(sizes) => Ok(sizes),
+        None => bail!("sizes are default, narrow or deep"),
+    }
+}
+
 /// Makes the cycles that the arguments ask for.
 pub(crate) fn measure(
     rt: &(impl AllocGlobal + Files + Print),
@@ -28,17 +46,8 @@ pub(crate) fn measure(
     let [path, stages, cycles, sizes] = words else {
         bail!("four words are wanted: a file, stages, cycles, and default, narrow or deep");
     };
-    let Some(sizes) = Sizes::named(sizes.as_str()) else {
-        bail!("sizes are default, narrow or deep");
-    };
-    let setup = Setup::read(rt, path, stages, cycles, sizes)?;
-    let mut machine = Machine::new(rt.alloc(), &setup.config, &setup.program)?;
-    make_cycles(&mut machine, setup.cycles);
-    let cells = of_machine(rt.alloc(), &machine)?;
-    println!(rt;
-        "cycles {} digest {}",
-        machine.done(),
-        digest(cells.as_slice())
-    )?;
+    let setup = Setup::read(rt, path, stages, cycles, sizes_named(sizes.as_str())?)?;
+    let (cycles, digest) = run(rt.alloc(), &setup)?;
+    println!(rt; "cycles {cycles} digest {digest}")?;
     Ok(())
 }

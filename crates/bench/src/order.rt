@@ -5,6 +5,8 @@
 //! most 1,000,000, and how far to go. `order` makes the order alone, `log` the log too, and `check`
 //! also checks them. All parts of the machine have the default sizes.
 
+ghost use Rattle.std.specs.Prelude.{◌≤◌};
+
 use crate::cells::of_machine;
 use crate::cycles::make_cycles;
 use crate::setup::{Setup, Sizes};
@@ -41,6 +43,43 @@ fn check_all(
     Ok(())
 }
 
+/// The serial order of a run. It prints how many entries it has.
+fn order_of(rt: &(impl AllocGlobal + Print), setup: &Setup) -> anyhow::Result<SerialList>
+    requires { setup.now.cycles ≤ 1000000 }
+{
+    let Ok(list) = order(rt.alloc(), &setup.config, &setup.program, setup.cycles) else {
+        bail!("memory was refused");
+    };
+    println!(rt; "entries {}", list.len())?;
+    Ok(list)
+}
+
+/// The log of a run. It prints how many issues and answers it has.
+fn log_of(rt: &(impl AllocGlobal + Print), setup: &Setup) -> anyhow::Result<Log>
+    requires { setup.now.cycles ≤ 1000000 }
+{
+    let Ok(log) = log(rt.alloc(), &setup.config, &setup.program, setup.cycles) else {
+        bail!("memory was refused");
+    };
+    println!(rt; "issues {} answers {}", log.issues.len(), log.answers.len())?;
+    Ok(log)
+}
+
+/// Makes the order of a run, and goes on to its log and to the check.
+fn go_on(rt: &(impl AllocGlobal + Print), setup: &Setup, goal: &str) -> anyhow::Result<()>
+    requires { setup.now.cycles ≤ 1000000 }
+{
+    let list = order_of(rt, setup)?;
+    if goal == "order" {
+        return Ok(());
+    }
+    let log = log_of(rt, setup)?;
+    if goal == "check" {
+        check_all(rt, setup, &log, &list)?;
+    }
+    Ok(())
+}
+
 /// Goes as far as the arguments ask for.
 pub(crate) fn measure(
     rt: &(impl AllocGlobal + Files + Print),
@@ -53,19 +92,5 @@ pub(crate) fn measure(
     if setup.cycles > MOST_CYCLES {
         bail!("at most 1,000,000 cycles can be made");
     }
-    let Ok(list) = order(rt.alloc(), &setup.config, &setup.program, setup.cycles) else {
-        bail!("memory was refused");
-    };
-    println!(rt; "entries {}", list.len())?;
-    if goal.as_str() == "order" {
-        return Ok(());
-    }
-    let Ok(log) = log(rt.alloc(), &setup.config, &setup.program, setup.cycles) else {
-        bail!("memory was refused");
-    };
-    println!(rt; "issues {} answers {}", log.issues.len(), log.answers.len())?;
-    if goal.as_str() == "check" {
-        check_all(rt, &setup, &log, &list)?;
-    }
-    Ok(())
+    go_on(rt, &setup, goal.as_str())
 }

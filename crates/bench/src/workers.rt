@@ -5,7 +5,7 @@
 //! number of workers, and `kept` or `anew`. With `kept` the workers' threads are started once, with
 //! `anew` they are started for each cycle. All parts of the machine have the default sizes.
 
-ghost use Rattle.std.specs.Prelude.{◌≤◌};
+ghost use Rattle.std.specs.Prelude.{◌≤◌, IfOk};
 
 use crate::cells::{digest, of_blocks};
 use crate::setup::{Setup, Sizes};
@@ -16,6 +16,7 @@ use std::sync::Wait;
 use std::thread::Threads;
 use ultra_block::unit_count;
 use ultra_crew::{Blocks, Crew, CrewFault, Gate, Half, MOST_WORKERS};
+use ultra_msg::Word;
 
 /// A gate that holds nobody up.
 struct Open;
@@ -76,6 +77,45 @@ fn make_cycles<R: Threads + Wait + Sync>(
     make_anew(rt, alloc, blocks, workers, count)
 }
 
+/// The number of workers that a word asks for.
+fn worker_count(word: &str) -> anyhow::Result<u8>
+    ensures { IfOk result (λ n. (1 ≤ n) × (n ≤ 64)) }
+{
+    let Ok(workers) = word.parse::<u8>() else {
+        bail!("the workers are a number");
+    };
+    if workers == 0 || usize::from(workers) > MOST_WORKERS {
+        bail!("there are 1 to 64 workers");
+    }
+    Ok(workers)
+}
+
+/// Whether a word asks for threads that are kept.
+fn are_kept(word: &str) -> anyhow::Result<bool> {
+    match word {
+        "kept" => Ok(true),
+        "anew" => Ok(false),
+        _ => bail!("threads are kept, or started anew"),
+    }
+}
+
+/// Makes the cycles of a run, and gives how many these were and the digest of the cells.
+fn run<R: AllocGlobal + Threads + Wait + Sync>(
+    rt: &R,
+    setup: &Setup,
+    workers: u8,
+    kept: bool,
+) -> anyhow::Result<(u32, Word)>
+    requires some_worker { 1 ≤ workers }
+    requires most_workers { workers ≤ 64 }
+{
+    let (alloc, several) = (rt.alloc(), usize::from(workers));
+    let blocks = machine_in_blocks(alloc, setup, workers)?;
+    let blocks = make_cycles(rt, alloc, blocks, several, setup.cycles, kept)?;
+    let cells = of_blocks(alloc, &blocks)?;
+    Ok((blocks.done(), digest(cells.as_slice())))
+}
+
 /// Makes the cycles that the arguments ask for.
 pub(crate) fn measure<R: AllocGlobal + Files + Print + Threads + Wait + Sync>(
     rt: &R,
@@ -84,26 +124,9 @@ pub(crate) fn measure<R: AllocGlobal + Files + Print + Threads + Wait + Sync>(
     let [path, stages, cycles, workers, threads] = words else {
         bail!("five words are wanted: a file, stages, cycles, workers, and kept or anew");
     };
-    let Ok(workers) = workers.as_str().parse::<u8>() else {
-        bail!("the workers are a number");
-    };
-    let several = usize::from(workers);
-    if several == 0 || several > MOST_WORKERS {
-        bail!("there are 1 to 64 workers");
-    }
-    let kept = match threads.as_str() {
-        "kept" => true,
-        "anew" => false,
-        _ => bail!("threads are kept, or started anew"),
-    };
+    let (workers, kept) = (worker_count(workers.as_str())?, are_kept(threads.as_str())?);
     let setup = Setup::read(rt, path, stages, cycles, Sizes::DEFAULT)?;
-    let blocks = machine_in_blocks(rt.alloc(), &setup, workers)?;
-    let blocks = make_cycles(rt, rt.alloc(), blocks, several, setup.cycles, kept)?;
-    let cells = of_blocks(rt.alloc(), &blocks)?;
-    println!(rt;
-        "cycles {} digest {}",
-        blocks.done(),
-        digest(cells.as_slice())
-    )?;
+    let (cycles, digest) = run(rt, &setup, workers, kept)?;
+    println!(rt; "cycles {cycles} digest {digest}")?;
     Ok(())
 }

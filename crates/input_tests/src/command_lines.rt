@@ -1,5 +1,6 @@
 //! What the arguments of a command line ask for.
 
+use crate::equal::{check_equal, check_equal_for};
 use std::alloc::{AllocError, Global};
 use std::process::Abort;
 use std::test::Fail;
@@ -424,8 +425,8 @@ fn the_paths_of_a_command_are_read(rt: HostRuntime) -> Result<(), Fail> {
         let Some((first, second)) = paths_of(&parsed) else {
             return Err("no command".into());
         };
-        assert_eq!(rt; first, paths.0, "{words:?}");
-        assert_eq!(rt; second, paths.1, "{words:?}");
+        check_equal_for(&rt, first, paths.0, format_args!("{words:?}"));
+        check_equal_for(&rt, second, paths.1, format_args!("{words:?}"));
     }
     Ok(())
 }
@@ -435,7 +436,7 @@ fn the_options_of_a_command_are_read(rt: HostRuntime) -> Result<(), Fail> {
     for (words, _, options) in &ASKED {
         let parsed = parsed(rt.alloc(), words)?;
         let found = options_of(rt.alloc(), &parsed)?;
-        assert_eq!(rt; found.as_str(), *options, "{words:?}");
+        check_equal_for(&rt, found.as_str(), *options, format_args!("{words:?}"));
     }
     Ok(())
 }
@@ -774,7 +775,7 @@ static VERSIONS: [&[&str]; 3] = [
 fn the_version_is_shown(rt: HostRuntime) -> Result<(), Fail> {
     for words in &VERSIONS {
         let text = version_for(rt.alloc(), words)?;
-        assert_eq!(rt; text.as_str(), "ultra 1.0 (trace 2)\n");
+        check_equal(&rt, text.as_str(), "ultra 1.0 (trace 2)\n");
     }
     Ok(())
 }

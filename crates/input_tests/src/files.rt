@@ -1,5 +1,6 @@
 //! Files that are read.
 
+use crate::equal::check_equal;
 use std::test::Fail;
 use ultra_io::{FileSource, Source, SourceFault};
 
@@ -9,7 +10,7 @@ fn a_file_that_is_not_there_is_not_read(rt: HostRuntime) -> Result<(), Fail> {
     match files.read(rt.alloc(), "no-such-file") {
         Err(SourceFault::NoMemory) => Err("no memory".into()),
         ended => {
-            assert_eq!(rt; ended.err(), Some(SourceFault::NotRead));
+            check_equal(&rt, ended.err(), Some(SourceFault::NotRead));
             Ok(())
         }
     }

@@ -5,6 +5,8 @@
 #[cfg(test)]
 mod command_lines;
 #[cfg(test)]
+mod equal;
+#[cfg(test)]
 mod files;
 #[cfg(test)]
 mod settings;

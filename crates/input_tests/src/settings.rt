@@ -1,5 +1,6 @@
 //! Texts of settings.
 
+use crate::equal::{check_equal, check_equal_for};
 use std::process::Abort;
 use std::test::Fail;
 use ultra_model::{Config, Field};
@@ -14,7 +15,7 @@ fn check_refused<R: Abort + AllocGlobal>(
     match settings_from(rt.alloc(), text) {
         Err(SettingsFault::NoMemory) => Err(Fail::from(SettingsFault::NoMemory)),
         ended => {
-            assert_eq!(rt; ended.err(), Some(wanted), "{text:?}");
+            check_equal_for(rt, ended.err(), Some(wanted), format_args!("{text:?}"));
             Ok(())
         }
     }
@@ -37,7 +38,7 @@ fn numbers_of(config: &Config) -> [u32; 7] {
 #[test]
 fn absent_keys_have_defaults(rt: HostRuntime) -> Result<(), Fail> {
     let config = settings_from(rt.alloc(), b"stages = 3")?;
-    assert_eq!(rt; numbers_of(&config), [3, 4, 8, 4, 2, 16, 1000]);
+    check_equal(&rt, numbers_of(&config), [3, 4, 8, 4, 2, 16, 1000]);
     assert!(rt; config.initial().is_empty());
     Ok(())
 }
@@ -58,8 +59,8 @@ initial = [[0, 7], [3, 0xff]]
 #[test]
 fn settings_are_read(rt: HostRuntime) -> Result<(), Fail> {
     let config = settings_from(rt.alloc(), ALL_KEYS.as_bytes())?;
-    assert_eq!(rt; numbers_of(&config), [1, 5, 9, 1, 3, 4, 10]);
-    assert_eq!(rt; config.initial(), [(0, 7), (3, 255)].as_slice());
+    check_equal(&rt, numbers_of(&config), [1, 5, 9, 1, 3, 4, 10]);
+    check_equal(&rt, config.initial(), [(0, 7), (3, 255)].as_slice());
     Ok(())
 }
 

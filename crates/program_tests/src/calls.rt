@@ -1,5 +1,6 @@
 //! Calls of the program over files and streams in memory.
 
+use crate::equal::{check_equal, check_equal_for};
 use crate::host::Host;
 use crate::memory_files::MemoryFiles;
 use std::process::Abort;
@@ -27,16 +28,16 @@ impl Ended {
 
     /// Asserts the status, and what was written to standard output and to standard error.
     pub(crate) fn check<R: Abort>(&self, rt: &R, wanted: (u8, &str, &str)) {
-        assert_eq!(rt; self.err.as_str(), wanted.2);
-        assert_eq!(rt; self.out.as_str(), wanted.1);
-        assert_eq!(rt; self.status, wanted.0);
+        check_equal(rt, self.err.as_str(), wanted.2);
+        check_equal(rt, self.out.as_str(), wanted.1);
+        check_equal(rt, self.status, wanted.0);
     }
 
     /// Asserts that standard output failed, and that a prefix of this text was written to it.
     pub(crate) fn check_cut<R: Abort>(&self, rt: &R, text: &str) {
-        assert_eq!(rt; self.err.as_str(), "ultra: write failed\n");
+        check_equal(rt, self.err.as_str(), "ultra: write failed\n");
         assert!(rt; text.starts_with(self.out.as_str()), "{}", self.out);
-        assert_eq!(rt; self.status, 5);
+        check_equal(rt, self.status, 5);
     }
 
     /// Asserts this status and that this whole text was written, or a prefix of the text and a line
@@ -46,7 +47,7 @@ impl Ended {
             return self.check(rt, (wanted.0, wanted.1, ""));
         }
         assert!(rt; wanted.1.starts_with(self.out.as_str()), "{}", self.out);
-        assert_eq!(rt; self.status, 4);
+        check_equal(rt, self.status, 4);
     }
 }
 
@@ -150,6 +151,6 @@ pub(crate) fn check_usage_fault<'w, R: Host>(
     let ended = call(rt, words, &SOUND_FILES)?;
     assert!(rt; ended.err.as_str().contains(text), "{words:?}");
     assert!(rt; ended.out.is_empty(), "{words:?}");
-    assert_eq!(rt; ended.status, 2, "{words:?}");
+    check_equal_for(rt, ended.status, 2, format_args!("{words:?}"));
     Ok(())
 }

@@ -3,6 +3,7 @@
 ghost use Rattle.ultra_io.specs.Account.{files_in, failures_in};
 
 use crate::calls::{Ended, call_over, call_within};
+use crate::equal::{check_equal, check_equal_for};
 use crate::examples::ADDS_ONE;
 use crate::host::Host;
 use crate::memory_files::MemoryFiles;
@@ -164,7 +165,7 @@ fn call<R: Host>(rt: &R, words: &[&str], out: SinkLimits, err: SinkLimits) -> Re
 /// What the words write to standard output, where they have this status.
 fn text_of<R: Host>(rt: &R, words: &[&str], wanted: u8) -> Result<String, Fail> {
     let Ended { status, out, err } = call(rt, words, SinkLimits::none(), SinkLimits::none())?;
-    assert_eq!(rt; status, wanted, "{words:?}");
+    check_equal_for(rt, status, wanted, format_args!("{words:?}"));
     assert!(rt; err.is_empty());
     Ok(out)
 }
@@ -172,7 +173,7 @@ fn text_of<R: Host>(rt: &R, words: &[&str], wanted: u8) -> Result<String, Fail> 
 /// What the words write to standard error, where they aren't done and have this status.
 fn fault_of<R: Host>(rt: &R, words: &[&str], wanted: u8) -> Result<String, Fail> {
     let Ended { status, out, err } = call(rt, words, SinkLimits::none(), SinkLimits::none())?;
-    assert_eq!(rt; status, wanted, "{words:?}");
+    check_equal_for(rt, status, wanted, format_args!("{words:?}"));
     assert!(rt; out.is_empty());
     Ok(err)
 }
@@ -187,7 +188,7 @@ fn check_write<R: Host>(rt: &R, words: &[&str], text: &str, count: usize) -> Res
         SinkLimits::none(),
     )?;
     ended.check_cut(rt, text);
-    assert_eq!(rt; ended.out.len(), count, "{words:?}");
+    check_equal_for(rt, ended.out.len(), count, format_args!("{words:?}"));
     Ok(())
 }
 
@@ -297,8 +298,8 @@ static SHOWN_SWEEP: [&str; 6] = [
 fn check_progress_fails<R: Host>(rt: &R, report: &str, count: usize) -> Result<(), Fail> {
     let err = SinkLimits::failing_once_after(count);
     let ended = call(rt, &SHOWN_SWEEP, SinkLimits::none(), err)?;
-    assert_eq!(rt; ended.status, 0, "{count}");
-    assert_eq!(rt; ended.out.as_str(), report);
+    check_equal_for(rt, ended.status, 0, format_args!("{count}"));
+    check_equal(rt, ended.out.as_str(), report);
     Ok(())
 }
 

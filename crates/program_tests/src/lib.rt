@@ -7,6 +7,8 @@ mod answers;
 #[cfg(test)]
 mod calls;
 #[cfg(test)]
+mod equal;
+#[cfg(test)]
 mod examples;
 #[cfg(test)]
 mod explanations;

@@ -1,6 +1,7 @@
 //! The texts of the coordination programs, as `ultra lib` writes them.
 
 use crate::calls::call;
+use crate::equal::{check_equal, check_equal_for};
 use crate::host::Host;
 use std::test::Fail;
 
@@ -53,7 +54,7 @@ fn barrier_is_written_and_runs(rt: HostRuntime) -> Result<(), Fail> {
     let files: [(&str, &[u8]); 2] = [("c.toml", b"stages = 1"), ("p.s", BARRIER.as_bytes())];
     let ended = call(&rt, &["ultra", "run", "c.toml", "p.s"], &files)?;
     assert!(rt; ended.out.as_str().contains(BARRIER_END));
-    assert_eq!(rt; ended.status, 0);
+    check_equal(&rt, ended.status, 0);
     Ok(())
 }
 
@@ -65,7 +66,7 @@ fn check_beginning<'w, R: Host>(rt: &R, words: &'w [&'w str], beginning: &str) -
     let ended = call(rt, words, &NO_FILES)?;
     assert!(rt; ended.err.is_empty(), "{words:?}");
     assert!(rt; ended.out.as_str().starts_with(beginning), "{words:?}");
-    assert_eq!(rt; ended.status, 0, "{words:?}");
+    check_equal_for(rt, ended.status, 0, format_args!("{words:?}"));
     Ok(())
 }
 
@@ -122,7 +123,7 @@ fn parameters_within_their_ranges_are_taken(rt: HostRuntime) -> Result<(), Fail>
 /// standard error.
 fn refusal_of<'w, R: Host>(rt: &R, words: &'w [&'w str], wanted: u8) -> Result<String, Fail> {
     let ended = call(rt, words, &NO_FILES)?;
-    assert_eq!(rt; ended.status, wanted, "{words:?}");
+    check_equal_for(rt, ended.status, wanted, format_args!("{words:?}"));
     assert!(rt; ended.out.is_empty(), "{words:?}");
     Ok(ended.err)
 }
@@ -147,7 +148,12 @@ static OUT_OF_RANGE: [&[&str]; 12] = [
 fn parameters_out_of_their_ranges_are_refused(rt: HostRuntime) -> Result<(), Fail> {
     for words in &OUT_OF_RANGE {
         let err = refusal_of(&rt, words, 3)?;
-        assert_eq!(rt; err.as_str(), "ultra: bad parameter\n", "{words:?}");
+        check_equal_for(
+            &rt,
+            err.as_str(),
+            "ultra: bad parameter\n",
+            format_args!("{words:?}"),
+        );
     }
     Ok(())
 }

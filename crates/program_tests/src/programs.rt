@@ -1,6 +1,7 @@
 //! The program over files in memory.
 
 use crate::calls::{call, call_into, check_command, check_usage_fault};
+use crate::equal::check_equal;
 use crate::examples::{self, ADDS_NUMBER, ADDS_ONE, Example};
 use crate::host::Host;
 use std::alloc::{AllocError, Global};
@@ -435,7 +436,7 @@ fn check_answer<R: Host>(rt: &R, words: &[&str], parts: &[&str]) -> Result<(), F
         assert!(rt; ended.out.as_str().contains(part), "{part}: {}", ended.out);
     }
     assert!(rt; ended.err.is_empty());
-    assert_eq!(rt; ended.status, 0);
+    check_equal(rt, ended.status, 0);
     Ok(())
 }
 

@@ -3,6 +3,7 @@
 ghost use Rattle.std.specs.Prelude.{◌≡◌, ◌-◌, Contains, IfOk};
 ghost use Rattle.ultra_board.specs.View.{first_view, second_view};
 
+use crate::equal::{check_equal, check_equal_for};
 use std::process::Abort;
 use std::test::Fail;
 use std::thread;
@@ -39,7 +40,7 @@ fn check_totals<R: Abort>(rt: &R, board: Board, seat: Seat, totals: Totals)
     requires board { seat.board ≡ board.id }
     requires all { seat.view.places ≡ board.limits.seats }
 {
-    assert_eq!(rt; board.close(seat), totals);
+    check_equal(rt, board.close(seat), totals);
 }
 
 /// Draws until no number is left, and finishes each number at once.
@@ -94,10 +95,11 @@ const BAD_LIMITS: [(u64, u64, u64); 5] = [
 fn bad_limits(rt: HostRuntime) -> Result<(), Fail> {
     for (limit, bound, seats) in BAD_LIMITS {
         let fault = Board::open(rt.alloc(), limit, bound, seats).err();
-        assert_eq!(rt;
+        check_equal_for(
+            &rt,
             fault,
             Some(BoardFault::BadLimit),
-            "at {limit}, {bound}, {seats}"
+            format_args!("at {limit}, {bound}, {seats}"),
         );
     }
     Ok(())
@@ -109,7 +111,7 @@ fn one_place_is_not_split(rt: HostRuntime) -> Result<(), Fail> {
     let Err((seat, fault)) = board.split(seat) else {
         panic!(rt; "a seat of one place was split")
     };
-    assert_eq!(rt; fault, BoardFault::BadLimit);
+    check_equal(&rt, fault, BoardFault::BadLimit);
     let totals = Totals {
         claimed: 0,
         finished: 0,
@@ -123,7 +125,7 @@ fn one_place_is_not_split(rt: HostRuntime) -> Result<(), Fail> {
 #[test]
 fn no_numbers(rt: HostRuntime) -> Result<(), Fail> {
     let (board, mut seat) = Board::open(rt.alloc(), 0, 1, 1)?;
-    assert_eq!(rt; draw(&board, &mut seat), None);
+    check_equal(&rt, draw(&board, &mut seat), None);
     let totals = Totals {
         claimed: 1,
         finished: 0,
@@ -155,7 +157,7 @@ fn board_basics(rt: HostRuntime) -> Result<(), Fail> {
         draw(&board, &mut a),
         draw(&board, &mut b),
     ];
-    assert_eq!(rt; drawn, [Some(0), Some(1), Some(2), None, None, None]);
+    check_equal(&rt, drawn, [Some(0), Some(1), Some(2), None, None, None]);
     let totals = Totals {
         claimed: 5,
         finished: 0,
@@ -192,7 +194,7 @@ fn draw_number<R: Abort>(rt: &R, board: &Board, seat: &mut Seat, wanted: u64) ->
     ensures unfinished { ¬ Contains seat.new.view.finished result }
 {
     let number = board.draw(seat).expect(rt, "no number was left");
-    assert_eq!(rt; number, wanted);
+    check_equal(rt, number, wanted);
     number
 }
 
@@ -203,8 +205,8 @@ fn progress_reads(rt: HostRuntime) -> Result<(), Fail> {
     let first = draw_number(&rt, &board, &mut a, 0);
     let second = draw_number(&rt, &board, &mut b, 1);
     board.finish(&mut b, second);
-    assert_eq!(rt; board.progress(&mut a), 1);
+    check_equal(&rt, board.progress(&mut a), 1);
     board.finish(&mut a, first);
-    assert_eq!(rt; board.progress(&mut b), 2);
+    check_equal(&rt, board.progress(&mut b), 2);
     Ok(())
 }

@@ -1,5 +1,6 @@
 //! Files of jobs.
 
+use crate::equal::check_equal;
 use std::alloc::Global;
 use std::process::Abort;
 use std::test::Fail;
@@ -14,7 +15,7 @@ fn check_refused<R: Abort + AllocGlobal>(
     match jobs_from(rt.alloc(), text) {
         Err(JobsFault::NoMemory) => Err(Fail::from(JobsFault::NoMemory)),
         ended => {
-            assert_eq!(rt; ended.err(), Some(wanted));
+            check_equal(rt, ended.err(), Some(wanted));
             Ok(())
         }
     }
@@ -26,7 +27,7 @@ const TWO_JOBS: &[u8] = b"[[job]]\nprog = \"a.s\"\nconf = \"a.toml\"\n\
 
 /// Asserts which settings and which program a job names.
 fn check_job<R: Abort>(rt: &R, (conf, prog): &(String, String), wanted: (&str, &str)) {
-    assert_eq!(rt; (conf.as_str(), prog.as_str()), wanted);
+    check_equal(rt, (conf.as_str(), prog.as_str()), wanted);
 }
 
 #[test]
@@ -75,7 +76,7 @@ fn file_of(alloc: Global, count: usize) -> Result<Vec<u8>, Fail> {
 #[test]
 fn most_jobs(rt: HostRuntime) -> Result<(), Fail> {
     let most = jobs_from(rt.alloc(), file_of(rt.alloc(), 256)?.as_slice())?;
-    assert_eq!(rt; most.len(), 256);
+    check_equal(&rt, most.len(), 256);
     let more = file_of(rt.alloc(), 257)?;
     check_refused(&rt, more.as_slice(), JobsFault::BadJob)
 }

@@ -1,5 +1,6 @@
 //! Results that aren't one for each job.
 
+use crate::equal::check_equal;
 use crate::jobs::two_jobs;
 use crate::sweeps::sweep_alone;
 use std::alloc::Global;
@@ -19,7 +20,7 @@ fn check_refused<R: Abort + AllocGlobal>(
             Err(Fail::from(GatherFault::NoMemory))
         }
         ended => {
-            assert_eq!(rt; ended.err(), Some(wanted));
+            check_equal(rt, ended.err(), Some(wanted));
             Ok(())
         }
     }

@@ -5,6 +5,8 @@
 #[cfg(test)]
 mod boards;
 #[cfg(test)]
+mod equal;
+#[cfg(test)]
 mod files;
 #[cfg(test)]
 mod gates;

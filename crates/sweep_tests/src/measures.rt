@@ -1,5 +1,6 @@
 //! Sweeps that give measures. The expected rows are those of another simulator.
 
+use crate::equal::check_equal;
 use crate::jobs::{several_cells, two_jobs};
 use crate::sweeps::{check_cut, sweep_by_two};
 use std::process::Abort;
@@ -60,9 +61,10 @@ fn check_table<R: Threads + Wait + Sync + Abort + AllocGlobal>(
     let gathered = gather(rt.alloc(), jobs.len() as u64, results)?;
     let mut out = MemorySink::with_limits(rt.alloc(), SinkLimits::taking_at_most(7))?;
     write_job_table(&gathered, measure_names(), &mut out)?;
-    assert_eq!(rt;
+    check_equal(
+        rt,
         out.text()?,
-        format!(in rt.alloc(); "{NAMES}{rows}")?.as_str()
+        format!(in rt.alloc(); "{NAMES}{rows}")?.as_str(),
     );
     Ok(())
 }
@@ -132,6 +134,6 @@ fn table_into_a_failing_sink(rt: HostRuntime) -> Result<(), Fail> {
     let limits = SinkLimits::failing_once_after(wanted.as_str().len());
     let mut out = MemorySink::with_limits(rt.alloc(), limits)?;
     write_job_table(&gathered, measure_names(), &mut out)?;
-    assert_eq!(rt; out.text()?, wanted.as_str());
+    check_equal(&rt, out.text()?, wanted.as_str());
     Ok(())
 }

@@ -3,6 +3,7 @@
 ghost use Rattle.std.specs.Prelude.{◌≡◌};
 
 use crate::boards::split;
+use crate::equal::{check_equal, check_equal_for};
 use crate::gates::{Counter, Meeting};
 use crate::jobs::{most_jobs, two_jobs};
 use std::process::Abort;
@@ -99,7 +100,7 @@ fn check_report<R: Abort + AllocGlobal>(rt: &R, results: Vec<JobResult>) -> Resu
     let gathered = gather(rt.alloc(), 2, results)?;
     let mut out = MemorySink::with_limits(rt.alloc(), SinkLimits::taking_at_most(7))?;
     report(&gathered, &mut out)?;
-    assert_eq!(rt; out.text()?, REPORT);
+    check_equal(rt, out.text()?, REPORT);
     Ok(())
 }
 
@@ -137,7 +138,7 @@ fn most_jobs_in_order(rt: HostRuntime) -> Result<(), Fail> {
         let gathered = gather(rt.alloc(), 256, results)?;
         let mut out = MemorySink::with_limits(rt.alloc(), SinkLimits::taking_at_most(7))?;
         report(&gathered, &mut out)?;
-        assert_eq!(rt; out.text()?, wanted.text()?);
+        check_equal(&rt, out.text()?, wanted.text()?);
     }
     Ok(())
 }
@@ -152,15 +153,15 @@ fn jobs_meet(rt: HostRuntime) -> Result<(), Fail> {
     let jobs = two_jobs(rt.alloc())?;
     let meeting = Meeting::new();
     check_report(&rt, sweep_by_two(&rt, jobs.as_slice(), 2, &meeting)?)?;
-    assert_eq!(rt; meeting.flags[0].load(Ordering::SeqCst), 1);
-    assert_eq!(rt; meeting.flags[1].load(Ordering::SeqCst), 1);
+    check_equal(&rt, meeting.flags[0].load(Ordering::SeqCst), 1);
+    check_equal(&rt, meeting.flags[1].load(Ordering::SeqCst), 1);
     if meeting.missed.load(Ordering::SeqCst) > 0 {
         return Err("NoThread, or one job at a time".into());
     }
     let counter = Counter::new();
     check_report(&rt, sweep_by_two(&rt, jobs.as_slice(), 1, &counter)?)?;
-    assert_eq!(rt; counter.runs.load(Ordering::SeqCst), 2);
-    assert_eq!(rt; counter.beside.load(Ordering::SeqCst), 0);
+    check_equal(&rt, counter.runs.load(Ordering::SeqCst), 2);
+    check_equal(&rt, counter.beside.load(Ordering::SeqCst), 0);
     Ok(())
 }
 
@@ -171,8 +172,8 @@ pub(crate) fn check_cut<R: Abort>(
     text: &str,
     count: usize,
 ) -> Result<(), Fail> {
-    assert_eq!(rt; out.failures, 1, "after {count}");
-    assert_eq!(rt; out.bytes.len(), count);
+    check_equal_for(rt, out.failures, 1, format_args!("after {count}"));
+    check_equal(rt, out.bytes.len(), count);
     assert!(rt; text.starts_with(out.text()?), "after {count}");
     Ok(())
 }
@@ -192,6 +193,6 @@ fn report_into_a_failing_sink(rt: HostRuntime) -> Result<(), Fail> {
     let limits = SinkLimits::failing_once_after(REPORT.len());
     let mut out = MemorySink::with_limits(rt.alloc(), limits)?;
     report(&gathered, &mut out)?;
-    assert_eq!(rt; out.text()?, REPORT);
+    check_equal(&rt, out.text()?, REPORT);
     Ok(())
 }
