@@ -1,7 +1,8 @@
 //! The table of commands, as `clap` knows it.
 
 ghost use Rattle.std.specs.Prelude.{◌≡◌, IfOk};
-ghost use Rattle.clap.specs.Words.{new_app, new_rule};
+ghost use Rattle.clap.specs.Words.{new_app, new_rule, Text};
+ghost use Rattle.ultra_args.specs.Asked.{command_among, command_named};
 ghost use Rattle.ultra_args.specs.Grammar.{app_in, kind_rule, program_in, rule_in, ultra_app};
 ghost use Rattle.ultra_args.specs.Grammar.{IsRead, IsApp};
 
@@ -11,11 +12,21 @@ use clap::builder::ValueParser;
 use clap::{Arg, ArgAction, Command};
 use std::alloc::{AllocError, Global};
 
+/// The rows of the table. The code of a table is proved in each function that names it, so both
+/// its readers have it from here.
+pub fn commands() -> &'static [TableRow]
+    ensures app { program_in (λ t. t.now) (λ r. r.now) result.now ≡ ultra_app }
+    ensures names { (name : Text) →
+        command_among (λ t. t.now) result.now name ≡ command_named name }
+{
+    &COMMANDS
+}
+
 /// The command line of the program.
 pub fn ultra_command<'c>(alloc: Global) -> Result<Command<'c>, AllocError>
     ensures { IfOk result (IsApp ultra_app) }
 {
-    program_with(alloc, &COMMANDS)
+    program_with(alloc, commands())
 }
 
 /// The command line of the program with these commands.

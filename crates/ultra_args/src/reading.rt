@@ -6,10 +6,11 @@ ghost use Rattle.ultra_args.specs.Asked as spec;
 ghost use Rattle.ultra_args.specs.Asked.{asked_of, decimal, given_number, is_set, named, named_in};
 ghost use Rattle.ultra_args.specs.Asked.{number_of, schedule_of, program_with_size, program_without_size, IsInRange};
 
+use crate::grammar::commands;
 use crate::table::{
-    ALL_OR_END, AT_ONCE, ArgumentKind, CAREFUL, COMMANDS, CONF, CSV, CommandName, EVERY, FROM,
-    HEAP, JOB_WORKERS, JOBS, LIST, MEASURES, NAME, NUMBER, ONLY, PROG, PROGRESS, SCHEDULE, SEED,
-    STEPS, TO, TableArgument, TableRow, WORKERS,
+    ALL_OR_END, AT_ONCE, ArgumentKind, CAREFUL, CONF, CSV, CommandName, EVERY, FROM, HEAP,
+    JOB_WORKERS, JOBS, LIST, MEASURES, NAME, NUMBER, ONLY, PROG, PROGRESS, SCHEDULE, SEED, STEPS,
+    TO, TableArgument, TableRow, WORKERS,
 };
 use crate::{
     Coordination, HeapBytes, Invocation, JobsAtOnce, LineFilter, ScheduleSource, SweepOutput,
@@ -50,7 +51,7 @@ pub fn wanted_by(matches: &ArgMatches<'_>) -> &'static str {
 fn command_named(name: &str) -> Option<CommandName>
     ensures { result ≡ spec.command_named name.now }
 {
-    command_among(&COMMANDS, name)
+    command_among(commands(), name)
 }
 
 /// The command of this name in these rows.
@@ -88,8 +89,8 @@ fn run<'w>(words: &ArgMatches<'w>) -> Option<Invocation<'w>>
 {
     let (from, to) = cycles(words)?;
     Some(Invocation::Run {
-        settings: text(words, &CONF)?,
-        program: text(words, &PROG)?,
+        settings: settings(words)?,
+        program: program(words)?,
         workers: Workers::new(number(words, &WORKERS)?),
         from,
         to,
@@ -104,8 +105,8 @@ fn events<'w>(words: &ArgMatches<'w>) -> Option<Invocation<'w>>
 {
     let (from, to) = cycles(words)?;
     Some(Invocation::Events {
-        settings: text(words, &CONF)?,
-        program: text(words, &PROG)?,
+        settings: settings(words)?,
+        program: program(words)?,
         from,
         to,
     })
@@ -117,8 +118,8 @@ fn requests<'w>(words: &ArgMatches<'w>) -> Option<Invocation<'w>>
         ≡ spec.asked_in CommandName.Requests (rows_of (found_of words.now)) }
 {
     Some(Invocation::Requests {
-        settings: text(words, &CONF)?,
-        program: text(words, &PROG)?,
+        settings: settings(words)?,
+        program: program(words)?,
     })
 }
 
@@ -128,8 +129,8 @@ fn measure<'w>(words: &ArgMatches<'w>) -> Option<Invocation<'w>>
         ≡ spec.asked_in CommandName.Measure (rows_of (found_of words.now)) }
 {
     Some(Invocation::Measure {
-        settings: text(words, &CONF)?,
-        program: text(words, &PROG)?,
+        settings: settings(words)?,
+        program: program(words)?,
         csv: is_set(words, &CSV),
         every: every(words),
     })
@@ -141,8 +142,8 @@ fn order<'w>(words: &ArgMatches<'w>) -> Option<Invocation<'w>>
         ≡ spec.asked_in CommandName.Order (rows_of (found_of words.now)) }
 {
     Some(Invocation::Order {
-        settings: text(words, &CONF)?,
-        program: text(words, &PROG)?,
+        settings: settings(words)?,
+        program: program(words)?,
     })
 }
 
@@ -152,8 +153,8 @@ fn explain<'w>(words: &ArgMatches<'w>) -> Option<Invocation<'w>>
         ≡ spec.asked_in CommandName.Explain (rows_of (found_of words.now)) }
 {
     Some(Invocation::Explain {
-        settings: text(words, &CONF)?,
-        program: text(words, &PROG)?,
+        settings: settings(words)?,
+        program: program(words)?,
         heap: HeapBytes::new(number(words, &HEAP)?),
     })
 }
@@ -164,8 +165,8 @@ fn check<'w>(words: &ArgMatches<'w>) -> Option<Invocation<'w>>
         ≡ spec.asked_in CommandName.Check (rows_of (found_of words.now)) }
 {
     Some(Invocation::Check {
-        settings: text(words, &CONF)?,
-        program: text(words, &PROG)?,
+        settings: settings(words)?,
+        program: program(words)?,
         list: text(words, &LIST)?,
     })
 }
@@ -176,8 +177,8 @@ fn para<'w>(words: &ArgMatches<'w>) -> Option<Invocation<'w>>
         ≡ spec.asked_in CommandName.Para (rows_of (found_of words.now)) }
 {
     Some(Invocation::Para {
-        settings: text(words, &CONF)?,
-        program: text(words, &PROG)?,
+        settings: settings(words)?,
+        program: program(words)?,
         schedule: schedule(words)?,
         only_end: only_end(words)?,
     })
@@ -189,7 +190,7 @@ fn list<'w>(words: &ArgMatches<'w>) -> Option<Invocation<'w>>
         ≡ spec.asked_in CommandName.List (rows_of (found_of words.now)) }
 {
     Some(Invocation::List {
-        program: text(words, &PROG)?,
+        program: program(words)?,
         careful: is_set(words, &CAREFUL),
     })
 }
@@ -216,6 +217,22 @@ fn lib<'w>(words: &ArgMatches<'w>) -> Option<Invocation<'w>>
     let name = text(words, &NAME)?;
     let numbers = texts(words, &NUMBER)?;
     Some(Invocation::Lib(coordination(name, numbers)?))
+}
+
+/// The path of the settings.
+fn settings<'w>(words: &ArgMatches<'w>) -> Option<&'w str>
+    ensures { option_map (λ s. s.now) result
+        ≡ first_of CONF.name.now (rows_of (found_of words.now)) }
+{
+    text(words, &CONF)
+}
+
+/// The path of the program's text.
+fn program<'w>(words: &ArgMatches<'w>) -> Option<&'w str>
+    ensures { option_map (λ s. s.now) result
+        ≡ first_of PROG.name.now (rows_of (found_of words.now)) }
+{
+    text(words, &PROG)
 }
 
 /// The first and the last cycle that are shown.
