@@ -21,16 +21,40 @@ fn grow<A: Allocator + Clone>(rt: &impl Abort, explainer: &mut Explainer<A>, lev
     }
 }
 
-/// A tree of this height. Its memory has to be there.
+/// Absorbs the first request of processing element 0, and this many more of it and of 1 by turns:
+/// what has combined so far comes to each.
+fn grow_at_new<A: Allocator + Clone>(rt: &impl Abort, explainer: &mut Explainer<A>, levels: u32) {
+    assert!(rt; absorb(rt, explainer, &issue(0, 0, 1)).is_ok());
+    for number in 0..levels {
+        let (old, new) = if number % 2 == 0 { (1, 0) } else { (0, 1) };
+        let level = [issue(old, number, 1), meeting(0, 0, old, new)];
+        check_equal(rt, absorb_all(rt, explainer, &level), 2);
+    }
+}
+
+/// Which part of each pair is the larger.
+#[derive(Clone, Copy, Drop)]
+enum Larger {
+    Old,
+    New,
+}
+
+/// A tree of this height, which its act gives away. Its memory has to be there.
 fn high_tree<A: Allocator + Clone>(
     rt: &impl Abort,
     settings: &Config,
     alloc: A,
+    larger: Larger,
     levels: u32,
 ) -> Tree<A> {
     let mut explainer = Explainer::new(settings, alloc).expect(rt, "no memory");
-    grow(rt, &mut explainer, levels);
-    serve(rt, &mut explainer, 0, 1)
+    match larger {
+        Larger::Old => grow(rt, &mut explainer, levels),
+        Larger::New => grow_at_new(rt, &mut explainer, levels),
+    }
+    let tree = serve(rt, &mut explainer, 0, 1);
+    assert!(rt; explainer.tree_of(0, 0).is_none());
+    tree
 }
 
 /// Asserts that a tree has 2,000 levels and 2,001 leaves, and which of these come first and last in
@@ -72,7 +96,7 @@ fn check_long_text<R: Abort + AllocGlobal, A: Allocator>(
 #[test]
 fn a_high_tree(rt: HostRuntime) -> Result<(), Fail> {
     let heap = LocalHeap::new(rt.alloc(), 1 << 20)?;
-    let tree = high_tree(&rt, &settings(&rt, 2)?, &heap, 2000);
+    let tree = high_tree(&rt, &settings(&rt, 2)?, &heap, Larger::Old, 2000);
     check_high_leaves(&rt, &tree, leaf(0, 0), leaf(1, 1999))?;
     let heads = "[s0x0 ".repeat(rt.alloc(), 2000)?;
     let end = " < 1.1997] < 1.1998] < 1.1999]";
@@ -83,40 +107,15 @@ fn a_high_tree(rt: HostRuntime) -> Result<(), Fail> {
 #[test]
 fn a_high_tree_is_dropped(rt: HostRuntime) -> Result<(), Fail> {
     let heap = LocalHeap::new(rt.alloc(), 1 << 26)?;
-    drop(high_tree(&rt, &settings(&rt, 2)?, &heap, 200_000));
+    drop(high_tree(&rt, &settings(&rt, 2)?, &heap, Larger::Old, 200_000));
     Ok(())
-}
-
-/// Absorbs the first request of processing element 0, and this many more of it and of 1 by turns:
-/// what has combined so far comes to each.
-fn grow_at_new<A: Allocator + Clone>(rt: &impl Abort, explainer: &mut Explainer<A>, levels: u32) {
-    assert!(rt; absorb(rt, explainer, &issue(0, 0, 1)).is_ok());
-    for number in 0..levels {
-        let (old, new) = if number % 2 == 0 { (1, 0) } else { (0, 1) };
-        let level = [issue(old, number, 1), meeting(0, 0, old, new)];
-        check_equal(rt, absorb_all(rt, explainer, &level), 2);
-    }
-}
-
-/// A tree of this height where the new part of each pair is the larger. Its memory has to be there.
-fn high_tree_at_new<A: Allocator + Clone>(
-    rt: &impl Abort,
-    settings: &Config,
-    alloc: A,
-    levels: u32,
-) -> Tree<A> {
-    let mut explainer = Explainer::new(settings, alloc).expect(rt, "no memory");
-    grow_at_new(rt, &mut explainer, levels);
-    let tree = serve(rt, &mut explainer, 0, 1);
-    assert!(rt; explainer.tree_of(0, 0).is_none());
-    tree
 }
 
 /// A drop that called itself for the new parts alone would need more stack than there is.
 #[test]
 fn a_tree_that_is_high_at_its_new_parts_is_dropped(rt: HostRuntime) -> Result<(), Fail> {
     let heap = LocalHeap::new(rt.alloc(), 1 << 26)?;
-    drop(high_tree_at_new(&rt, &settings(&rt, 2)?, &heap, 200_000));
+    drop(high_tree(&rt, &settings(&rt, 2)?, &heap, Larger::New, 200_000));
     Ok(())
 }
 
@@ -124,7 +123,7 @@ fn a_tree_that_is_high_at_its_new_parts_is_dropped(rt: HostRuntime) -> Result<()
 #[test]
 fn a_tree_that_is_high_at_its_new_parts(rt: HostRuntime) -> Result<(), Fail> {
     let heap = LocalHeap::new(rt.alloc(), 1 << 20)?;
-    let tree = high_tree_at_new(&rt, &settings(&rt, 2)?, &heap, 2000);
+    let tree = high_tree(&rt, &settings(&rt, 2)?, &heap, Larger::New, 2000);
     check_high_leaves(&rt, &tree, leaf(0, 1999), leaf(0, 0))?;
     let beginning = "[s0x0 0.1999 < [s0x0 1.1998 < [s0x0 0.1997 < ";
     let end = "]".repeat(rt.alloc(), 2000)?;
@@ -144,7 +143,7 @@ fn leaf(pe: Pe, number: u32) -> Leaf {
 #[test]
 fn leaves_are_refused_or_whole(rt: HostRuntime) -> Result<(), Fail> {
     let heap = LocalHeap::new(rt.alloc(), 4096)?;
-    let tree = high_tree(&rt, &settings(&rt, 2)?, &heap, 4);
+    let tree = high_tree(&rt, &settings(&rt, 2)?, &heap, Larger::Old, 4);
     let in_order = [leaf(0, 0), leaf(1, 0), leaf(1, 1), leaf(1, 2), leaf(1, 3)];
     let all = leaves(rt.alloc(), &tree)?;
     check_equal(&rt, all.as_slice(), in_order.as_slice());
