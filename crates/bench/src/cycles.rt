@@ -30,14 +30,6 @@ fn run(alloc: Global, setup: &Setup) -> anyhow::Result<(u32, Word)> {
     Ok((machine.done(), digest(cells.as_slice())))
 }
 
-/// The sizes of this name.
-fn sizes_named(name: &str) -> anyhow::Result<Sizes> {
-    match Sizes::named(name) {
-        Some(sizes) => Ok(sizes),
-        None => bail!("sizes are default, narrow or deep"),
-    }
-}
-
 /// Makes the cycles that the arguments ask for.
 pub(crate) fn measure(
     rt: &(impl AllocGlobal + Files + Print),
@@ -46,7 +38,7 @@ pub(crate) fn measure(
     let [path, stages, cycles, sizes] = words else {
         bail!("four words are wanted: a file, stages, cycles, and default, narrow or deep");
     };
-    let setup = Setup::read(rt, path, stages, cycles, sizes_named(sizes.as_str())?)?;
+    let setup = Setup::read(rt, path, stages, cycles, Sizes::named(sizes.as_str())?)?;
     let (cycles, digest) = run(rt.alloc(), &setup)?;
     println!(rt; "cycles {cycles} digest {digest}")?;
     Ok(())

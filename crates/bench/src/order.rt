@@ -45,7 +45,7 @@ fn check_all(
 
 /// The serial order of a run. It prints how many entries it has.
 fn order_of(rt: &(impl AllocGlobal + Print), setup: &Setup) -> anyhow::Result<SerialList>
-    requires { setup.now.cycles ≤ 1000000 }
+    requires { setup.now.cycles ≤ MOST_CYCLES }
 {
     let Ok(list) = order(rt.alloc(), &setup.config, &setup.program, setup.cycles) else {
         bail!("memory was refused");
@@ -56,7 +56,7 @@ fn order_of(rt: &(impl AllocGlobal + Print), setup: &Setup) -> anyhow::Result<Se
 
 /// The log of a run. It prints how many issues and answers it has.
 fn log_of(rt: &(impl AllocGlobal + Print), setup: &Setup) -> anyhow::Result<Log>
-    requires { setup.now.cycles ≤ 1000000 }
+    requires { setup.now.cycles ≤ MOST_CYCLES }
 {
     let Ok(log) = log(rt.alloc(), &setup.config, &setup.program, setup.cycles) else {
         bail!("memory was refused");
@@ -65,9 +65,9 @@ fn log_of(rt: &(impl AllocGlobal + Print), setup: &Setup) -> anyhow::Result<Log>
     Ok(log)
 }
 
-/// Makes the order of a run, and goes on to its log and to the check.
-fn go_on(rt: &(impl AllocGlobal + Print), setup: &Setup, goal: &str) -> anyhow::Result<()>
-    requires { setup.now.cycles ≤ 1000000 }
+/// Makes the order of a run, then its log, and checks the order, as far as the goal says.
+fn make_up_to(rt: &(impl AllocGlobal + Print), setup: &Setup, goal: &str) -> anyhow::Result<()>
+    requires { setup.now.cycles ≤ MOST_CYCLES }
 {
     let list = order_of(rt, setup)?;
     if goal == "order" {
@@ -92,5 +92,5 @@ pub(crate) fn measure(
     if setup.cycles > MOST_CYCLES {
         bail!("at most 1,000,000 cycles can be made");
     }
-    go_on(rt, &setup, goal.as_str())
+    make_up_to(rt, &setup, goal.as_str())
 }

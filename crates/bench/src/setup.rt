@@ -42,16 +42,13 @@ impl Sizes {
         most_open: 8,
     };
 
-    /// The sizes of this name, or `None` where there is no such name.
-    pub(crate) fn named(name: &str) -> Option<Sizes> {
-        if name == "default" {
-            Some(Sizes::DEFAULT)
-        } else if name == "narrow" {
-            Some(Sizes::NARROW)
-        } else if name == "deep" {
-            Some(Sizes::DEEP)
-        } else {
-            None
+    /// The sizes of this name.
+    pub(crate) fn named(name: &str) -> anyhow::Result<Sizes> {
+        match name {
+            "default" => Ok(Sizes::DEFAULT),
+            "narrow" => Ok(Sizes::NARROW),
+            "deep" => Ok(Sizes::DEEP),
+            _ => bail!("sizes are default, narrow or deep"),
         }
     }
 

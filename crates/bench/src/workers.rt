@@ -91,7 +91,7 @@ fn worker_count(word: &str) -> anyhow::Result<u8>
 }
 
 /// Whether a word asks for threads that are kept.
-fn are_kept(word: &str) -> anyhow::Result<bool> {
+fn keeps_threads(word: &str) -> anyhow::Result<bool> {
     match word {
         "kept" => Ok(true),
         "anew" => Ok(false),
@@ -124,7 +124,10 @@ pub(crate) fn measure<R: AllocGlobal + Files + Print + Threads + Wait + Sync>(
     let [path, stages, cycles, workers, threads] = words else {
         bail!("five words are wanted: a file, stages, cycles, workers, and kept or anew");
     };
-    let (workers, kept) = (worker_count(workers.as_str())?, are_kept(threads.as_str())?);
+    let (workers, kept) = (
+        worker_count(workers.as_str())?,
+        keeps_threads(threads.as_str())?,
+    );
     let setup = Setup::read(rt, path, stages, cycles, Sizes::DEFAULT)?;
     let (cycles, digest) = run(rt, &setup, workers, kept)?;
     println!(rt; "cycles {cycles} digest {digest}")?;

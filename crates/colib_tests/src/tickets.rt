@@ -8,6 +8,7 @@ use std::process::Abort;
 use std::test::Fail;
 use ultra_colib::tickets_program;
 use ultra_msg::{Pe, Word};
+use ultra_para::Para;
 
 /// Checks the listing of the ticket counter.
 fn check_listing<R: AllocGlobal + Abort>(rt: &R, rounds: u32) -> Result<(), Fail> {
@@ -35,9 +36,15 @@ fn rounds_out_of_range_are_refused(rt: HostRuntime) -> Result<(), Fail> {
     Ok(())
 }
 
-/// Checks the last ticket of each of two processing elements, and the count, after a schedule of the
-/// ticket counter with three rounds. The first draw is the third step of a processing element, and
-/// each further draw is four steps later.
+/// Checks the last ticket of each of two processing elements.
+pub(crate) fn check_tickets(rt: &impl Abort, para: &Para, tickets: [Word; 2]) {
+    check_equal(rt, para.register(0, 1), Some(tickets[0]));
+    check_equal(rt, para.register(1, 1), Some(tickets[1]));
+}
+
+/// Checks the last tickets and the count after a schedule of the ticket counter with three rounds.
+/// The first draw is the third step of a processing element, and each further draw is four steps
+/// later.
 fn check_draws<R: AllocGlobal + Abort>(
     rt: &R,
     turns: &[(Pe, usize)],
@@ -45,15 +52,13 @@ fn check_draws<R: AllocGlobal + Abort>(
     count: Word,
 ) -> Result<(), Fail> {
     let para = run_program(rt, &tickets_program(rt.alloc(), 3)?, turns)?;
-    check_equal(rt, para.register(0, 1), Some(tickets[0]));
-    check_equal(rt, para.register(1, 1), Some(tickets[1]));
+    check_tickets(rt, &para, tickets);
     check_cells(rt, &para, &[(0, count)]);
     Ok(())
 }
 
-/// One has drawn twice, then the other once.
 #[test]
-fn second_ticket_comes_before_that_of_another(rt: HostRuntime) -> Result<(), Fail> {
+fn one_draws_twice_then_the_other_once(rt: HostRuntime) -> Result<(), Fail> {
     check_draws(&rt, &[(0, 7), (1, 3)], [1, 2], 3)
 }
 
