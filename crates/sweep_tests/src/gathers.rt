@@ -5,8 +5,9 @@ use crate::jobs::two_jobs;
 use crate::sweeps::sweep_alone;
 use std::alloc::Global;
 use std::process::Abort;
+use std::sync::Wait;
 use std::test::Fail;
-use ultra_sweep::{GatherFault, JobOutcome, JobResult, gather};
+use ultra_sweep::{GatherFault, Job, JobOutcome, JobResult, gather};
 
 /// Asserts that the results of `count` jobs are refused with this fault.
 fn check_refused<R: Abort + AllocGlobal>(
@@ -29,14 +30,18 @@ fn check_refused<R: Abort + AllocGlobal>(
 #[test]
 fn another_number_of_jobs(rt: HostRuntime) -> Result<(), Fail> {
     let jobs = two_jobs(rt.alloc())?;
-    gather(rt.alloc(), 2, sweep_alone(&rt, jobs.as_slice())?)?;
-    let stranger = sweep_alone(&rt, jobs.as_slice())?;
-    check_refused(&rt, 1, stranger, GatherFault::Stranger(1))?;
-    let missing = sweep_alone(&rt, jobs.as_slice())?;
-    check_refused(&rt, 3, missing, GatherFault::Missing(2))?;
-    let mut double = sweep_alone(&rt, jobs.as_slice())?;
-    double.append(&mut sweep_alone(&rt, jobs.as_slice())?)?;
-    check_refused(&rt, 2, double, GatherFault::Double(0))
+    let jobs = jobs.as_slice();
+    gather(rt.alloc(), 2, sweep_alone(&rt, jobs)?)?;
+    check_refused(&rt, 1, sweep_alone(&rt, jobs)?, GatherFault::Stranger(1))?;
+    check_refused(&rt, 3, sweep_alone(&rt, jobs)?, GatherFault::Missing(2))?;
+    check_refused(&rt, 2, results_twice(&rt, jobs)?, GatherFault::Double(0))
+}
+
+/// The results of all jobs, and then once more.
+fn results_twice<R: Wait + AllocGlobal>(rt: &R, jobs: &[Job]) -> Result<Vec<JobResult>, Fail> {
+    let mut results = sweep_alone(rt, jobs)?;
+    results.append(&mut sweep_alone(rt, jobs)?)?;
+    Ok(results)
 }
 
 /// A result with an empty text, or one of a job to which memory was refused.

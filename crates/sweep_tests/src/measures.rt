@@ -1,6 +1,6 @@
 //! Sweeps that give measures. The expected rows are those of another simulator.
 
-use crate::equal::check_equal;
+use crate::equal::{check_equal, check_equal_for};
 use crate::jobs::{several_cells, two_jobs};
 use crate::sweeps::{check_cut, sweep_by_two};
 use std::process::Abort;
@@ -10,7 +10,7 @@ use std::thread::Threads;
 use test_sinks::{MemorySink, SinkLimits};
 use ultra_args::{Invocation, Parsed, SweepOutput, parse};
 use ultra_measure::measure_names;
-use ultra_sweep::{Job, gather, write_job_table};
+use ultra_sweep::{Gathered, Job, gather, write_job_table};
 use ultra_sweep_command::OutputGate;
 
 /// The first line of a table.
@@ -49,6 +49,44 @@ const SEVERAL_OPEN_CELLS: &str = "\
 ,,,,,,,,,,,,,,,,,,,,,,,,,,,,,,,,,,,,,,,\n\
 ";
 
+/// The texts of the jobs, by two threads, `at_once` jobs at once.
+fn gathered_by_two<R: Threads + Wait + Sync + Abort + AllocGlobal>(
+    rt: &R,
+    jobs: &[Job],
+    output: &SweepOutput,
+    at_once: u64,
+) -> Result<Gathered, Fail> {
+    let results = sweep_by_two(rt, jobs, at_once, &OutputGate::new(output))?;
+    Ok(gather(rt.alloc(), jobs.len() as u64, results)?)
+}
+
+/// Asserts that the table of these texts is written, into a sink with limits.
+fn check_whole_table<R: Abort + AllocGlobal>(
+    rt: &R,
+    gathered: &Gathered,
+    wanted: &str,
+    limits: SinkLimits,
+) -> Result<(), Fail> {
+    let mut out = MemorySink::with_limits(rt.alloc(), limits)?;
+    write_job_table(gathered, measure_names(), &mut out)?;
+    check_equal(rt, out.text()?, wanted);
+    Ok(())
+}
+
+/// Asserts that a sink whose writes fail once after `count` bytes takes these bytes of the table.
+fn check_cut_table<R: Abort + AllocGlobal>(
+    rt: &R,
+    gathered: &Gathered,
+    wanted: &str,
+    count: usize,
+) -> Result<(), Fail> {
+    let limits = SinkLimits::failing_once_after(count);
+    let mut out = MemorySink::with_limits(rt.alloc(), limits)?;
+    let is_cut = write_job_table(gathered, measure_names(), &mut out).is_err();
+    check_equal_for(rt, is_cut, true, format_args!("after {count}"));
+    check_cut(rt, &out, wanted, count)
+}
+
 /// Asserts that two threads, which run `at_once` jobs at once, make this table of the jobs.
 fn check_table<R: Threads + Wait + Sync + Abort + AllocGlobal>(
     rt: &R,
@@ -57,16 +95,14 @@ fn check_table<R: Threads + Wait + Sync + Abort + AllocGlobal>(
     at_once: u64,
     rows: &str,
 ) -> Result<(), Fail> {
-    let results = sweep_by_two(rt, jobs, at_once, &OutputGate::new(output))?;
-    let gathered = gather(rt.alloc(), jobs.len() as u64, results)?;
-    let mut out = MemorySink::with_limits(rt.alloc(), SinkLimits::taking_at_most(7))?;
-    write_job_table(&gathered, measure_names(), &mut out)?;
-    check_equal(
+    let gathered = gathered_by_two(rt, jobs, output, at_once)?;
+    let wanted = format!(in rt.alloc(); "{NAMES}{rows}")?;
+    check_whole_table(
         rt,
-        out.text()?,
-        format!(in rt.alloc(); "{NAMES}{rows}")?.as_str(),
-    );
-    Ok(())
+        &gathered,
+        wanted.as_str(),
+        SinkLimits::taking_at_most(7),
+    )
 }
 
 #[test]
@@ -119,21 +155,16 @@ fn windows_of_three_cycles(rt: HostRuntime) -> Result<(), Fail> {
 fn table_into_a_failing_sink(rt: HostRuntime) -> Result<(), Fail> {
     let jobs = two_jobs(rt.alloc())?;
     let output = SweepOutput::Measures { every: None };
-    let results = sweep_by_two(&rt, jobs.as_slice(), 1, &OutputGate::new(&output))?;
-    let gathered = gather(rt.alloc(), 2, results)?;
+    let gathered = gathered_by_two(&rt, jobs.as_slice(), &output, 1)?;
     let wanted = format!(in rt.alloc(); "{NAMES}{WHOLE_RUNS}")?;
+    let wanted = wanted.as_str();
     for count in [0, 1, 3, 4, 5, 500, 1020, 1021, 1022, 1100, 1252] {
-        let limits = SinkLimits::failing_once_after(count);
-        let mut out = MemorySink::with_limits(rt.alloc(), limits)?;
-        assert!(rt;
-            write_job_table(&gathered, measure_names(), &mut out).is_err(),
-            "after {count}"
-        );
-        check_cut(&rt, &out, wanted.as_str(), count)?;
+        check_cut_table(&rt, &gathered, wanted, count)?;
     }
-    let limits = SinkLimits::failing_once_after(wanted.as_str().len());
-    let mut out = MemorySink::with_limits(rt.alloc(), limits)?;
-    write_job_table(&gathered, measure_names(), &mut out)?;
-    check_equal(&rt, out.text()?, wanted.as_str());
-    Ok(())
+    check_whole_table(
+        &rt,
+        &gathered,
+        wanted,
+        SinkLimits::failing_once_after(wanted.len()),
+    )
 }

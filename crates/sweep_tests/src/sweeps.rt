@@ -95,11 +95,21 @@ fn together(
     Ok(results)
 }
 
-/// Asserts that the results of the two jobs make their report.
-fn check_report<R: Abort + AllocGlobal>(rt: &R, results: Vec<JobResult>) -> Result<(), Fail> {
-    let gathered = gather(rt.alloc(), 2, results)?;
+/// The report of the results of `count` jobs.
+fn report_of<R: AllocGlobal>(
+    rt: &R,
+    count: u64,
+    results: Vec<JobResult>,
+) -> Result<MemorySink, Fail> {
+    let gathered = gather(rt.alloc(), count, results)?;
     let mut out = MemorySink::with_limits(rt.alloc(), SinkLimits::taking_at_most(7))?;
     report(&gathered, &mut out)?;
+    Ok(out)
+}
+
+/// Asserts that the results of the two jobs make their report.
+fn check_report<R: Abort + AllocGlobal>(rt: &R, results: Vec<JobResult>) -> Result<(), Fail> {
+    let out = report_of(rt, 2, results)?;
     check_equal(rt, out.text()?, REPORT);
     Ok(())
 }
@@ -114,33 +124,51 @@ fn two_job_sweep(rt: HostRuntime) -> Result<(), Fail> {
     Ok(())
 }
 
-/// The report of the runs of all jobs, in order, by the thread of the test and without a sweep.
+/// Writes the number of a job and the trace of its run, by the thread of the test.
+fn write_run<R: AllocGlobal>(
+    rt: &R,
+    number: usize,
+    job: &Job,
+    out: &mut MemorySink,
+) -> Result<(), Fail> {
+    let line = format!(in rt.alloc(); "job {number}\n")?;
+    write_all(out, line.as_bytes())?;
+    run_alone(rt.alloc(), &job.config, &job.program, out)?;
+    Ok(())
+}
+
+/// The report of the runs of all jobs, in order and without a sweep.
 fn report_of_runs<R: AllocGlobal>(rt: &R, jobs: &[Job]) -> Result<MemorySink, Fail> {
     let mut out = MemorySink::with_limits(rt.alloc(), SinkLimits::taking_at_most(7))?;
     for (number, job) in jobs.iter().enumerate() {
-        let line = format!(in rt.alloc(); "job {number}\n")?;
-        write_all(&mut out, line.as_bytes())?;
-        run_alone(rt.alloc(), &job.config, &job.program, &mut out)?;
+        write_run(rt, number, job, &mut out)?;
     }
     Ok(out)
+}
+
+/// Asserts that two threads, which run `at_once` jobs at once, make this report of the jobs.
+fn check_report_by_two<R: Threads + Wait + Sync + Abort + AllocGlobal>(
+    rt: &R,
+    jobs: &[Job],
+    at_once: u64,
+    wanted: &str,
+) -> Result<(), Fail> {
+    let results = sweep_by_two(rt, jobs, at_once, &RunAlone)?;
+    let out = report_of(rt, jobs.len() as u64, results)?;
+    check_equal(rt, out.text()?, wanted);
+    Ok(())
 }
 
 /// As many jobs as a sweep may have, by two threads: the report is that of their runs in order.
 #[test]
 fn most_jobs_in_order(rt: HostRuntime) -> Result<(), Fail> {
     let jobs = most_jobs(rt.alloc())?;
-    let wanted = report_of_runs(&rt, jobs.as_slice())?;
-    assert!(rt;
-        wanted.text()?.ends_with("\nend quiet\npe 0 halted 1 r1=255\npe 1 halted 1 r1=255\n")
-    );
-    for at_once in [1, 2] {
-        let results = sweep_by_two(&rt, jobs.as_slice(), at_once, &RunAlone)?;
-        let gathered = gather(rt.alloc(), 256, results)?;
-        let mut out = MemorySink::with_limits(rt.alloc(), SinkLimits::taking_at_most(7))?;
-        report(&gathered, &mut out)?;
-        check_equal(&rt, out.text()?, wanted.text()?);
-    }
-    Ok(())
+    let runs = report_of_runs(&rt, jobs.as_slice())?;
+    let wanted = runs.text()?;
+    let last = "\nend quiet\npe 0 halted 1 r1=255\npe 1 halted 1 r1=255\n";
+    check_equal(&rt, wanted.ends_with(last), true);
+    check_report_by_two(&rt, jobs.as_slice(), 1, wanted)?;
+    check_report_by_two(&rt, jobs.as_slice(), 2, wanted)
 }
 
 /// Two threads. Where two jobs may run at once, each waits in its run for the other's; where one
@@ -151,17 +179,26 @@ fn most_jobs_in_order(rt: HostRuntime) -> Result<(), Fail> {
 #[test]
 fn jobs_meet(rt: HostRuntime) -> Result<(), Fail> {
     let jobs = two_jobs(rt.alloc())?;
-    let meeting = Meeting::new();
-    check_report(&rt, sweep_by_two(&rt, jobs.as_slice(), 2, &meeting)?)?;
-    check_equal(&rt, meeting.flags[0].load(Ordering::SeqCst), 1);
-    check_equal(&rt, meeting.flags[1].load(Ordering::SeqCst), 1);
-    if meeting.missed.load(Ordering::SeqCst) > 0 {
-        return Err("NoThread, or one job at a time".into());
-    }
+    check_meeting(&rt, jobs.as_slice())?;
     let counter = Counter::new();
     check_report(&rt, sweep_by_two(&rt, jobs.as_slice(), 1, &counter)?)?;
     check_equal(&rt, counter.runs.load(Ordering::SeqCst), 2);
     check_equal(&rt, counter.beside.load(Ordering::SeqCst), 0);
+    Ok(())
+}
+
+/// Asserts that each of two jobs waits in its run for the other's, where both may run at once.
+fn check_meeting<R: Threads + Wait + Sync + Abort + AllocGlobal>(
+    rt: &R,
+    jobs: &[Job],
+) -> Result<(), Fail> {
+    let meeting = Meeting::new();
+    check_report(rt, sweep_by_two(rt, jobs, 2, &meeting)?)?;
+    check_equal(rt, meeting.flags[0].load(Ordering::SeqCst), 1);
+    check_equal(rt, meeting.flags[1].load(Ordering::SeqCst), 1);
+    if meeting.missed.load(Ordering::SeqCst) > 0 {
+        return Err("NoThread, or one job at a time".into());
+    }
     Ok(())
 }
 
