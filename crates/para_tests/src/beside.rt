@@ -1,10 +1,9 @@
 //! A machine with a paracomputer beside it, whose schedule is read off the machine's events.
 
-ghost use Rattle.std.specs.Prelude.{◌<◌, ◌↔◌, All, IsTrue};
-
 use crate::equal::check_equal_for;
 use crate::making::register;
 use crate::random::{Random, random_program, random_settings};
+use crate::runs::is_schedule;
 use std::alloc::Global;
 use std::process::Abort;
 use std::test::Fail;
@@ -117,13 +116,6 @@ fn run(
     Ok(schedule)
 }
 
-/// Whether each number of a schedule is a processing element's.
-pub(crate) fn is_schedule(schedule: &[Pe], size: u32) -> bool
-    ensures { IsTrue result ↔ All (λ p. p < size) schedule.now }
-{
-    schedule.iter().all(|&pe| pe < size)
-}
-
 /// The paracomputer has the value of the machine's cell.
 fn cell_looks_like(rt: &impl Abort, machine: &Machine, para: &Para, cell: Cell) {
     let size = machine.config().net().size();
@@ -179,7 +171,7 @@ fn looks_like(rt: &impl Abort, machine: &Machine, para: &Para) {
 }
 
 /// The paracomputer after a schedule.
-pub(crate) fn after(
+fn after(
     rt: &(impl Abort + AllocGlobal),
     config: &Config,
     program: &Program,

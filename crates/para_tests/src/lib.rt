@@ -1,9 +1,11 @@
-//! Tests of the paracomputer, over public calls alone. They are in a separate crate, so that the
-//! library isn't proved a second time with its tests.
+//! Tests of the paracomputer, of the coordination library and of the assembler, over public calls
+//! alone. They are in a separate crate, so that no library is proved a second time with its tests.
 #![tactic(auto)]
 
 #[cfg(test)]
 mod beside;
+#[cfg(test)]
+mod cases;
 #[cfg(test)]
 mod equal;
 #[cfg(test)]
@@ -11,6 +13,8 @@ mod making;
 #[cfg(test)]
 mod random;
 #[cfg(test)]
-mod rows;
+mod runs;
 #[cfg(test)]
 mod texts;
+#[cfg(test)]
+mod wrong_programs;

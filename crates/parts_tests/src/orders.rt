@@ -4,57 +4,12 @@ use crate::equal::{check_equal, check_equal_for};
 use std::alloc::Global;
 use std::process::Abort;
 use std::test::Fail;
-use test_support::{add_one, defaults, program, register};
-use ultra_isa::{Instr, Program};
-use ultra_machine::{Config, RawSettings};
+use test_support::{add_one, config};
+use ultra_isa::Program;
 use ultra_msg::{Cell, Op, Pe, Reply, Word};
 use ultra_serial::{
     BreachKind, CheckFault, Entry, Log, LoggedAnswer, LoggedIssue, SerialMemory, check, log, order,
 };
-
-/// The default settings with one stage, and these initial cells.
-fn one_stage(alloc: Global, initial: Vec<(i64, i64)>) -> Result<Config, Fail> {
-    let raw = RawSettings {
-        initial: Some(initial),
-        ..defaults(alloc, 1)
-    };
-    Ok(Config::new(alloc, &raw)?)
-}
-
-/// Processing element 0 adds 3 to cell 0 and processing element 1 stores 10 in it, or the other way
-/// round.
-fn add_and_store(alloc: Global, adds_first: bool) -> Result<Program, Fail> {
-    let (zero, one, two) = (register(0), register(1), register(2));
-    let (three, four) = (register(3), register(4));
-    let add = Instr::Faa(three, zero, two);
-    let store = Instr::Store(zero, four);
-    let list = vec![in alloc;
-        Instr::Set(two, 3),
-        Instr::Set(four, 10),
-        Instr::Number(one),
-        Instr::JumpIfNotZero(one, 6),
-        if adds_first { add } else { store },
-        Instr::Halt,
-        if adds_first { store } else { add },
-        Instr::Halt,
-    ]?;
-    program(list)
-}
-
-/// Processing element 0 loads cell 0, and processing element 1 stores 7 in it.
-fn load_and_store(alloc: Global) -> Result<Program, Fail> {
-    let (zero, one, two) = (register(0), register(1), register(2));
-    let list = vec![in alloc;
-        Instr::Set(two, 7),
-        Instr::Number(one),
-        Instr::JumpIfNotZero(one, 5),
-        Instr::Load(register(3), zero),
-        Instr::Halt,
-        Instr::Store(zero, two),
-        Instr::Halt,
-    ]?;
-    program(list)
-}
 
 /// The first request of a processing element, for cell 0.
 fn done(pe: Pe, op: Op, reply: Reply) -> Entry {
@@ -158,7 +113,7 @@ fn serial_memory(rt: HostRuntime) -> Result<(), Fail> {
     Ok(())
 }
 
-/// Asserts the order of a run with initial cells that are all 0.
+/// Asserts the order of a run on a machine of one stage.
 fn check_order(
     rt: &(impl Abort + AllocGlobal),
     program: &Program,
@@ -166,7 +121,7 @@ fn check_order(
     expected: &[Entry],
 ) -> Result<(), Fail> {
     assert!(rt; cycles <= 1000);
-    let config = one_stage(rt.alloc(), Vec::new(rt.alloc()))?;
+    let config = config(rt.alloc(), 1)?;
     let list = order(rt.alloc(), &config, program, cycles)?;
     check_equal_for(
         rt,
@@ -185,38 +140,6 @@ fn combined_pair(rt: HostRuntime) -> Result<(), Fail> {
 }
 
 #[test]
-fn load_then_store(rt: HostRuntime) -> Result<(), Fail> {
-    let config = one_stage(rt.alloc(), vec![in rt.alloc(); (0, 5)]?)?;
-    let list = order(rt.alloc(), &config, &load_and_store(rt.alloc())?, 9)?;
-    let expected = [
-        done(1, Op::Store(7), Reply::Ack),
-        done(0, Op::Load, Reply::Value(7)),
-    ];
-    check_equal(&rt, list.as_slice(), expected.as_slice());
-    Ok(())
-}
-
-#[test]
-fn store_then_faa(rt: HostRuntime) -> Result<(), Fail> {
-    let program = add_and_store(rt.alloc(), true)?;
-    let expected = [
-        done(1, Op::Store(10), Reply::Ack),
-        done(0, Op::Faa(3), Reply::Value(10)),
-    ];
-    check_order(&rt, &program, 10, &expected)
-}
-
-#[test]
-fn faa_then_store(rt: HostRuntime) -> Result<(), Fail> {
-    let program = add_and_store(rt.alloc(), false)?;
-    let expected = [
-        done(0, Op::Store(10), Reply::Ack),
-        done(1, Op::Faa(3), Reply::Value(10)),
-    ];
-    check_order(&rt, &program, 10, &expected)
-}
-
-#[test]
 fn nothing_served_yet(rt: HostRuntime) -> Result<(), Fail> {
     let program = add_one(rt.alloc())?;
     check_order(&rt, &program, 4, &[])?;
@@ -231,7 +154,7 @@ fn same_logs(rt: &impl Abort, a: &Log, b: &Log) {
 
 #[test]
 fn log_of_a_pair(rt: HostRuntime) -> Result<(), Fail> {
-    let config = one_stage(rt.alloc(), Vec::new(rt.alloc()))?;
+    let config = config(rt.alloc(), 1)?;
     let found = log(rt.alloc(), &config, &add_one(rt.alloc())?, 8)?;
     same_logs(&rt, &found, &log_with(rt.alloc(), 1, 2, 7)?);
     check(rt.alloc(), &[], &found, &[(0, 2)], &in_order())?;

@@ -1,6 +1,6 @@
 //! Calls of the program over files and streams in memory.
 
-use crate::equal::{check_equal, check_equal_for};
+use crate::equal::check_equal;
 use crate::host::Host;
 use crate::memory_files::MemoryFiles;
 use std::process::Abort;
@@ -8,6 +8,9 @@ use std::test::Fail;
 use test_sinks::{MemorySink, SinkLimits};
 use ultra_commands::main_with;
 use ultra_io::{Account, Source};
+
+/// A fetch-and-add of 1 to cell 0.
+pub(crate) const ADDS_ONE: &[u8] = b"li r1 0\nli r2 1\nfaa r3 r1 r2\nhalt\n";
 
 /// What a call of the program did: its status, and what it wrote to standard output and to standard
 /// error.
@@ -135,22 +138,5 @@ pub(crate) fn check_command<R: Host>(
 ) -> Result<(), Fail> {
     let files = [("c.toml", settings), ("p.s", program)];
     call(rt, words, &files)?.check(rt, wanted);
-    Ok(())
-}
-
-/// Settings and a program, both sound.
-static SOUND_FILES: [(&str, &[u8]); 2] = [("c.toml", b"stages = 1"), ("p.s", b"halt")];
-
-/// Asserts that the words are a usage fault, though the files are there, and that its text says
-/// this.
-pub(crate) fn check_usage_fault<'w, R: Host>(
-    rt: &R,
-    words: &'w [&'w str],
-    text: &str,
-) -> Result<(), Fail> {
-    let ended = call(rt, words, &SOUND_FILES)?;
-    assert!(rt; ended.err.as_str().contains(text), "{words:?}");
-    assert!(rt; ended.out.is_empty(), "{words:?}");
-    check_equal_for(rt, ended.status, 2, format_args!("{words:?}"));
     Ok(())
 }

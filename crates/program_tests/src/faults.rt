@@ -2,9 +2,8 @@
 
 ghost use Rattle.ultra_io.specs.Account.{files_in, failures_in};
 
-use crate::calls::{Ended, call_over, call_within};
+use crate::calls::{ADDS_ONE, Ended, call_over, call_within, unless_refused};
 use crate::equal::{check_equal, check_equal_for};
-use crate::examples::ADDS_ONE;
 use crate::host::Host;
 use crate::memory_files::MemoryFiles;
 use std::alloc::Global;
@@ -335,6 +334,28 @@ fn a_command_is_refused_or_whole(rt: HostRuntime) -> Result<(), Fail> {
         check_answer(&rt, words, *status)?;
     }
     check_answer(&rt, &MEASURED_SWEEP, 0)
+}
+
+/// The words that explain a run, with the trees in a heap of their own.
+static EXPLAIN: [&str; 6] = ["ultra", "explain", "c.toml", "p.s", "--heap", "4096"];
+
+/// Eight fetch-and-adds become one over three stages.
+const THREE_LEVELS: &str = "\
+cycle 7 module 0 cell 0 [s2x0 [s1x4 [s0x2 5.0 < 1.0] < [s0x6 7.0 < 3.0]] < [s1x0 [s0x0 4.0 < 0.0] < [s0x4 6.0 < 2.0]]]
+";
+
+/// Settings of three stages, and a program.
+static THREE_STAGES: [(&str, &[u8]); 2] = [("c.toml", b"stages = 3"), ("p.s", ADDS_ONE)];
+
+/// With each allocation refused in turn, an explanation is refused after a prefix of its text, or
+/// whole. A refusal is the error of this test.
+#[test]
+fn an_explanation_is_refused_or_whole(rt: HostRuntime) -> Result<(), Fail> {
+    let no_limits = SinkLimits::none();
+    let ended = call_within(&rt, &EXPLAIN, &THREE_STAGES, no_limits, no_limits)?;
+    ended.check_refused_or_whole(&rt, (0, THREE_LEVELS));
+    unless_refused(ended)?;
+    Ok(())
 }
 
 /// Calls the program, whose read after `sound_reads` reads fails. It writes nothing to standard

@@ -10,15 +10,6 @@ use ultra_sweep::{Job, settings_from};
 /// Each processing element adds 1 to cell 0.
 const ADD_ONE: &str = "li r1 0\nli r2 1\nfaa r3 r1 r2\nhalt\n";
 
-/// Settings with few places and cells, in which a processing element may have eight cells open.
-const EIGHT_OPEN: &[u8] = b"stages = 1\nrequest_places = 2\nreply_places = 4\nwait_places = 2\n\
-    open = 8\ncells = 4\n";
-
-/// Each processing element refers to several cells at once. At last 0 halts, and 1 runs past the
-/// end of the program.
-const SEVERAL_CELLS: &str = "pid r1\nli r2 2\nadd r3 r1 r1\naddi r3 r3 4\nst r0 r1\n\
-    faa r4 r2 r2\nst r3 r1\nld r5 r1\njnz r1 end\nst r2 r1\nhalt\nend:\n";
-
 /// The most jobs of a sweep.
 const MOST_JOBS: usize = 256;
 
@@ -45,13 +36,4 @@ pub(crate) fn two_jobs(alloc: Global) -> Result<Vec<Job>, Fail>
     ensures { IfOk result (λ v. vec_len v ≡ 2) }
 {
     Ok(vec![in alloc; job(alloc, "halt\n")?, job(alloc, ADD_ONE)?]?)
-}
-
-/// One job, in which several cells are open at once, and a processing element faults.
-pub(crate) fn several_cells(alloc: Global) -> Result<Vec<Job>, Fail> {
-    let job = Job {
-        config: settings_from(alloc, EIGHT_OPEN)?,
-        program: assemble(alloc, SEVERAL_CELLS)?,
-    };
-    Ok(vec![in alloc; job]?)
 }

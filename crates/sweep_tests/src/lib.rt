@@ -15,6 +15,4 @@ mod gathers;
 #[cfg(test)]
 mod jobs;
 #[cfg(test)]
-mod measures;
-#[cfg(test)]
 mod sweeps;

@@ -68,7 +68,7 @@ pub(crate) fn sweep_alone<R: Wait + AllocGlobal>(
 }
 
 /// The results of all jobs, by two threads, `at_once` jobs at once.
-pub(crate) fn sweep_by_two<R: Threads + Wait + Sync + Abort + AllocGlobal, G: JobGate + Sync>(
+fn sweep_by_two<R: Threads + Wait + Sync + Abort + AllocGlobal, G: JobGate + Sync>(
     rt: &R,
     jobs: &[Job],
     at_once: u64,
@@ -95,23 +95,23 @@ fn together(
     Ok(results)
 }
 
-/// The report of the results of `count` jobs.
-fn report_of<R: AllocGlobal>(
+/// Asserts that the results of `count` jobs make this report.
+fn check_report_of<R: Abort + AllocGlobal>(
     rt: &R,
     count: u64,
     results: Vec<JobResult>,
-) -> Result<MemorySink, Fail> {
+    wanted: &str,
+) -> Result<(), Fail> {
     let gathered = gather(rt.alloc(), count, results)?;
     let mut out = MemorySink::with_limits(rt.alloc(), SinkLimits::taking_at_most(7))?;
     report(&gathered, &mut out)?;
-    Ok(out)
+    check_equal(rt, out.text()?, wanted);
+    Ok(())
 }
 
 /// Asserts that the results of the two jobs make their report.
 fn check_report<R: Abort + AllocGlobal>(rt: &R, results: Vec<JobResult>) -> Result<(), Fail> {
-    let out = report_of(rt, 2, results)?;
-    check_equal(rt, out.text()?, REPORT);
-    Ok(())
+    check_report_of(rt, 2, results, REPORT)
 }
 
 #[test]
@@ -146,19 +146,6 @@ fn report_of_runs<R: AllocGlobal>(rt: &R, jobs: &[Job]) -> Result<MemorySink, Fa
     Ok(out)
 }
 
-/// Asserts that two threads, which run `at_once` jobs at once, make this report of the jobs.
-fn check_report_by_two<R: Threads + Wait + Sync + Abort + AllocGlobal>(
-    rt: &R,
-    jobs: &[Job],
-    at_once: u64,
-    wanted: &str,
-) -> Result<(), Fail> {
-    let results = sweep_by_two(rt, jobs, at_once, &RunAlone)?;
-    let out = report_of(rt, jobs.len() as u64, results)?;
-    check_equal(rt, out.text()?, wanted);
-    Ok(())
-}
-
 /// As many jobs as a sweep may have, by two threads: the report is that of their runs in order.
 #[test]
 fn most_jobs_in_order(rt: HostRuntime) -> Result<(), Fail> {
@@ -167,8 +154,11 @@ fn most_jobs_in_order(rt: HostRuntime) -> Result<(), Fail> {
     let wanted = runs.text()?;
     let last = "\nend quiet\npe 0 halted 1 r1=255\npe 1 halted 1 r1=255\n";
     check_equal(&rt, wanted.ends_with(last), true);
-    check_report_by_two(&rt, jobs.as_slice(), 1, wanted)?;
-    check_report_by_two(&rt, jobs.as_slice(), 2, wanted)
+    for at_once in [1, 2] {
+        let results = sweep_by_two(&rt, jobs.as_slice(), at_once, &RunAlone)?;
+        check_report_of(&rt, jobs.len() as u64, results, wanted)?;
+    }
+    Ok(())
 }
 
 /// Two threads. Where two jobs may run at once, each waits in its run for the other's; where one
@@ -203,12 +193,7 @@ fn check_meeting<R: Threads + Wait + Sync + Abort + AllocGlobal>(
 }
 
 /// Asserts that one write of a sink failed, and that it had taken this many bytes of a text.
-pub(crate) fn check_cut<R: Abort>(
-    rt: &R,
-    out: &MemorySink,
-    text: &str,
-    count: usize,
-) -> Result<(), Fail> {
+fn check_cut<R: Abort>(rt: &R, out: &MemorySink, text: &str, count: usize) -> Result<(), Fail> {
     check_equal_for(rt, out.failures, 1, format_args!("after {count}"));
     check_equal(rt, out.bytes.len(), count);
     assert!(rt; text.starts_with(out.text()?), "after {count}");
