@@ -2,7 +2,7 @@
 #![tactic(auto)]
 
 ghost use Rattle.std.specs.Prelude.{◌≡◌, ◌≢◌, ◌+◌, IfOk, OnErr};
-ghost use Rattle.ultra_args.specs.declared.Parsed.{Parsed};
+ghost use Rattle.ultra_command_line.specs.declared.Parsed.{Parsed};
 ghost use Rattle.ultra_inputs.specs.Traffic.{traffic};
 ghost use Rattle.ultra_inputs.specs.Shown.{stream};
 ghost use Rattle.ultra_inputs.specs.Status.{status_failures, IsRefusal, IsStatus};

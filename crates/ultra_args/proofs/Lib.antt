@@ -2,5 +2,3 @@ pub mod Building
 pub mod Rows
 pub mod Tables
 pub mod Numbers
-pub mod RunWords
-pub mod Flags

@@ -1,17 +1,12 @@
 -- what a command line asks for
-use Rattle.std.specs.Prelude.{◌≡◌, ◌≢◌, ◌⊎◌, ◌==◌, ◌&&◌, ◌≤◌, ⊤, ℕ, Bool, true, false, List, []}
-use Rattle.std.specs.Prelude.{◌∷◌, find, length, slice_index, Option, Some, None, codes}
-use Rattle.std.specs.Prelude.{if◌then◌else◌, nat_lt, nat_le, option_map, option_and_then}
-use Rattle.std.specs.Prelude.{Result, MatchResult}
+use Rattle.std.specs.Prelude.{◌==◌, ◌&&◌, ◌≤◌, ℕ, Bool, true, false, List, [], ◌∷◌, find}
+use Rattle.std.specs.Prelude.{length, slice_index, Option, Some, None, codes, nat_lt, nat_le}
+use Rattle.std.specs.Prelude.{if◌then◌else◌, option_map, option_and_then}
 use Rattle.std.specs.Char.{digit_value}
 use Rattle.std.specs.Option.{option_map_or}
 use Rattle.std.specs.Str.{bytes_eq}
 use Rattle.std.specs.Str.Parse.{digits_value, without_leading_plus}
-use Rattle.clap.specs.Words.{Row, Text, all_of, fault_of, first_of, one_of, kind_of}
-use Rattle.clap.specs.Words.{subcommand_of, IsAmong}
-use Rattle.clap.specs.declared.Error.{Error}
-use Rattle.clap.specs.declared.error.ErrorKind.{ErrorKind}
-use Rattle.clap.specs.declared.error.ErrorKind.TheVariants as kind
+use Rattle.clap.specs.Words.{Row, Text, all_of, first_of, one_of, subcommand_of}
 use Rattle.ultra_args.specs.declared.Invocation.{Invocation}
 use Rattle.ultra_args.specs.declared.Invocation.TheVariants as command
 use Rattle.ultra_args.specs.declared.LineFilter.{LineFilter}
@@ -23,8 +18,6 @@ use Rattle.ultra_args.specs.declared.sweep_output.SweepOutput.TheVariants.{Repor
 use Rattle.ultra_args.specs.declared.Coordination.{Coordination}
 use Rattle.ultra_args.specs.declared.Coordination.TheVariants.{Gate, Queue, ReadersWriters}
 use Rattle.ultra_args.specs.declared.Coordination.TheVariants.{Barrier, Tickets}
-use Rattle.ultra_args.specs.declared.Parsed.{Parsed}
-use Rattle.ultra_args.specs.declared.Parsed.TheVariants as parsed
 use Rattle.ultra_args.specs.declared.table.Argument.{Argument}
 use Rattle.ultra_args.specs.declared.table.ArgumentKind.{ArgumentKind}
 use Rattle.ultra_args.specs.declared.table.ArgumentKind.TheVariants.{Number}
@@ -237,71 +230,3 @@ named_in = option_and_then (λ p. named p.0 p.1)
 -- what the arguments ask for; the first is the program's name
 abbrev pub asked : List Text → Option Asked
 asked words = named_in (subcommand_of ultra_app words)
-
--- what is wrong with the arguments: `clap` refuses them so, or what it accepted asks for nothing
-abbrev pub IsFault : List Text → ErrorKind → Type 0
-IsFault words k = IsAmong k (fault_of ultra_app words)
-    ⊎ ((k ≡ kind.ValueValidation) × (fault_of ultra_app words ≡ []) × (asked words ≡ None))
-
--- a text of this kind is the answer: help, the version, or what is wrong with the arguments
-abbrev pub IsTextOfKind : ErrorKind → Parsed → Type 0
-IsTextOfKind k (parsed.Invocation c) = ⊥
-IsTextOfKind k (parsed.Help text) = k ≡ kind.DisplayHelp
-IsTextOfKind k (parsed.Version text) = k ≡ kind.DisplayVersion
-IsTextOfKind k (parsed.Usage text) = (k ≢ kind.DisplayHelp) × (k ≢ kind.DisplayVersion)
-IsTextOfKind k parsed.NoMemory = ⊥
-
--- the arguments ask for the command
-abbrev pub IsAsked : List Text → Invocation → Type 0
-IsAsked words c = (fault_of ultra_app words ≡ []) × (asked words ≡ Some (asked_of c))
-
--- the arguments ask for the command, or memory was refused, or the error says what is wrong
-abbrev pub IsAnswer : List Text → Result Invocation Error → Type 0
-IsAnswer words r = MatchResult r (IsAsked words)
-    (λ e. (kind_of e ≡ kind.OutOfMemory) ⊎ IsFault words (kind_of e))
-
--- the arguments ask for what was parsed
-abbrev pub IsAskedBy : List Text → Parsed → Type 0
-IsAskedBy words (parsed.Invocation c) = IsAsked words c
-IsAskedBy words (parsed.Help text) = IsFault words kind.DisplayHelp
-IsAskedBy words (parsed.Version text) = IsFault words kind.DisplayVersion
-IsAskedBy words (parsed.Usage text) =
-    (k : ErrorKind) × IsFault words k × (k ≢ kind.DisplayHelp) × (k ≢ kind.DisplayVersion)
-IsAskedBy words parsed.NoMemory = ⊤
-
--- ---- a run of two paths
-
--- the text doesn't begin with a hyphen (45)
-abbrev pub IsPath : Text → Type 0
-IsPath t = slice_index t 0 ≢ 45
-
--- the arguments are `run` and two paths, after the program's name
-abbrev pub AreRunOf : List Text → Text → Text → Type 0
-AreRunOf words conf prog =
-    (name : Text) × (words ≡ name ∷ codes "run" ∷ conf ∷ prog ∷ []) × IsPath conf × IsPath prog
-
--- the run of these two paths by one worker, unless memory was refused
-abbrev pub IsRunOf : Text → Text → Parsed → Type 0
-IsRunOf conf prog (parsed.Invocation c) = asked_of c ≡ run conf prog 1 0 1000000 All
-IsRunOf conf prog (parsed.Help text) = ⊥
-IsRunOf conf prog (parsed.Version text) = ⊥
-IsRunOf conf prog (parsed.Usage text) = ⊥
-IsRunOf conf prog parsed.NoMemory = ⊤
-
--- ---- help and the version
-
--- the only argument is this one, after the program's name
-abbrev pub AreOnly : List Text → Text → Type 0
-AreOnly words word = (name : Text) × (words ≡ name ∷ word ∷ [])
-
--- help, unless memory was refused
-abbrev pub IsHelp : Parsed → Type 0
-IsHelp (parsed.Help text) = ⊤
-IsHelp parsed.NoMemory = ⊤
-IsHelp _ = ⊥
-
--- the version, unless memory was refused
-abbrev pub IsVersion : Parsed → Type 0
-IsVersion (parsed.Version text) = ⊤
-IsVersion parsed.NoMemory = ⊤
-IsVersion _ = ⊥

@@ -114,23 +114,6 @@ The size that the program is for, and the number T of rounds
 A barrier and tickets have no size. T is 1 to 1000. Each number is in
 decimal digits.";
 
-/// What is said where the arguments ask for nothing, though each is right by itself.
-pub const INVALID_ARGUMENTS: &str = "invalid arguments";
-
-/// The text of a usage fault of `run`.
-pub const RUN_WANTS: &str = "--only is all, events or end";
-
-/// The text of a usage fault of `para`.
-pub const PARA_WANTS: &str = "the steps come from SCHEDULE or from --seed S, and not from both; \
-                              --steps T belongs to --seed; --only is all or end";
-
-/// The text of a usage fault of `sweep`.
-pub const SWEEP_WANTS: &str = "--every E belongs to --measure";
-
-/// The text of a usage fault of `lib`.
-pub const LIB_WANTS: &str = "the coordination programs are gate B T, queue Z T, rw G T, barrier T \
-                             and tickets T, with each number in decimal digits";
-
 /// The help of the program.
 pub const ULTRA: Help<'static> = Help {
     about: "Simulates the NYU Ultracomputer cycle by cycle",

@@ -14,7 +14,7 @@ use crate::table::{
 };
 use crate::{
     Coordination, HeapBytes, Invocation, JobsAtOnce, LineFilter, ScheduleSource, SweepOutput,
-    WindowCycles, Workers, help,
+    WindowCycles, Workers,
 };
 use clap::ArgMatches;
 
@@ -33,22 +33,8 @@ fn invocation_named<'w>(name: &str, words: &ArgMatches<'w>) -> Option<Invocation
     asked_in(command_named(name)?, words)
 }
 
-/// What the command wants of its arguments besides the table.
-pub fn wanted_by(matches: &ArgMatches<'_>) -> &'static str {
-    let Some((name, _)) = matches.subcommand() else {
-        return help::INVALID_ARGUMENTS;
-    };
-    match command_named(name) {
-        Some(CommandName::Run) => help::RUN_WANTS,
-        Some(CommandName::Para) => help::PARA_WANTS,
-        Some(CommandName::Sweep) => help::SWEEP_WANTS,
-        Some(CommandName::Lib) => help::LIB_WANTS,
-        _ => help::INVALID_ARGUMENTS,
-    }
-}
-
 /// The command of this name.
-fn command_named(name: &str) -> Option<CommandName>
+pub fn command_named(name: &str) -> Option<CommandName>
     ensures { result ≡ spec.command_named name.now }
 {
     command_among(commands(), name)

@@ -22,11 +22,11 @@ use Rattle.ultra_commands.specs.Check.{CheckFails, failure_of_verdict}
 use Rattle.ultra_commands.specs.Paracomputer as para
 use Rattle.ultra_commands.specs.Paracomputer.{ParaFails, seeded_text}
 use Rattle.ultra_commands.specs.Stops.{IsStoppedBy, RunFails}
-use Rattle.ultra_commands.specs.Explanation.{explanation_of, EndsFull, IsCutShort}
+use Rattle.ultra_explain_command.specs.Explanation.{explanation_of, EndsFull, IsCutShort}
 use Rattle.ultra_commands.specs.Coordination as lib
 use Rattle.ultra_commands.specs.Coordination.{LibFails}
 use Rattle.ultra_args.specs.declared.Coordination.{Coordination}
-use Rattle.ultra_args.specs.declared.Parsed.{Parsed}
+use Rattle.ultra_command_line.specs.declared.Parsed.{Parsed}
 use Rattle.ultra_inputs.specs.Shown.{IsReported}
 use Rattle.ultra_args.specs.declared.sweep_output.SweepOutput.{SweepOutput}
 use Rattle.ultra_sweep_command.specs.Sweep as sweep

@@ -6,5 +6,4 @@ pub mod Outputs
 pub mod Check
 pub mod Paracomputer
 pub mod Coordination
-pub mod Explanation
 pub mod Outcome

@@ -2,8 +2,8 @@
 use Rattle.std.specs.Prelude.{◌≡◌, ◌≢◌, ◌+◌, ℕ, List, [], ◌∷◌, ◌++◌, string_bytes, Result, OnOk, IfErr}
 use Rattle.ultra_msg.specs.Bytes.{TakesPrefix}
 use Rattle.ultra_args.specs.declared.Invocation.TheVariants.{Run, Events, Requests, Measure, Order, Explain, Check, Para, List as ListOf, Sweep, Lib}
-use Rattle.ultra_args.specs.declared.Parsed.{Parsed}
-use Rattle.ultra_args.specs.declared.Parsed.TheVariants as parsed
+use Rattle.ultra_command_line.specs.declared.Parsed.{Parsed}
+use Rattle.ultra_command_line.specs.declared.Parsed.TheVariants as parsed
 use Rattle.ultra_inputs.specs.declared.failure.Failure.{Failure}
 use Rattle.ultra_inputs.specs.declared.failure.Failure.TheVariants.{Usage, NoMemory, HeapFull, NotWritten}
 use Rattle.ultra_inputs.specs.Traffic.{Traffic, IsStopped, WroteText, TextFails}
@@ -15,7 +15,7 @@ use Rattle.ultra_commands.specs.Outputs.{measures_asked, part_asked}
 use Rattle.ultra_commands.specs.Check.{WroteLegal, CheckFails}
 use Rattle.ultra_commands.specs.Paracomputer.{WrotePara, ParaFails}
 use Rattle.ultra_commands.specs.Order.{order_of}
-use Rattle.ultra_commands.specs.Explanation.{explanation_of, EndsFull, IsCutShort}
+use Rattle.ultra_explain_command.specs.Explanation.{explanation_of, EndsFull, IsCutShort}
 use Rattle.ultra_commands.specs.Coordination.{WroteProgram, LibFails}
 use Rattle.ultra_inputs.specs.Shown.{IsReported}
 use Rattle.ultra_inputs.specs.Status.{IsStatus, IsRefusal, status_failures}

@@ -1,11 +1,8 @@
 //! The program `ultra` as a library: what it does with its arguments, its files and its streams.
 #![tactic(auto)]
 
-mod acts;
 mod checking;
 mod coordination;
-mod explaining;
-mod line_buffer;
 mod listing;
 mod para;
 mod run_output;
@@ -15,8 +12,8 @@ mod third_file;
 mod trace;
 
 ghost use Rattle.std.specs.Prelude.{◌≡◌, ◌≢◌, ◌+◌, map};
-ghost use Rattle.ultra_args.specs.Asked.{IsAskedBy};
-ghost use Rattle.ultra_args.specs.declared.Parsed.{Parsed};
+ghost use Rattle.ultra_command_line.specs.Answer.{IsAskedBy};
+ghost use Rattle.ultra_command_line.specs.declared.Parsed.{Parsed};
 ghost use Rattle.ultra_inputs.specs.Shown.{stream};
 ghost use Rattle.ultra_inputs.specs.Traffic.{traffic};
 ghost use Rattle.ultra_inputs.specs.Status.{status_failures, IsRefusal, IsStatus};
@@ -24,7 +21,6 @@ ghost use Rattle.ultra_commands.specs.Outcome.{Obeyed, Failed, HasEnded, HasRepo
 
 use crate::checking::check;
 use crate::coordination::write_program;
-use crate::explaining::explain;
 use crate::listing::list;
 use crate::para::para;
 use crate::run_output::write_run_output;
@@ -33,7 +29,9 @@ use crate::serial_order::SerialOrder;
 use crate::trace::{part_asked, run};
 use std::sync::Wait;
 use std::thread::Threads;
-use ultra_args::{Invocation, Parsed, parse};
+use ultra_args::Invocation;
+use ultra_command_line::{Parsed, parse};
+use ultra_explain_command::explain;
 use ultra_inputs::{Failure, report_failure};
 use ultra_io::Source;
 use ultra_msg::{Sink, write_all};

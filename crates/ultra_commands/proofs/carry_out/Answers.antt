@@ -3,7 +3,7 @@ use Rattle.std.proofs.Common.{◌≡◌, ◌+◌, arith, refl}
 use Rattle.std.specs.Prelude.{OnOk}
 use Rattle.std.proofs.lemmas.Result.{IfErr-weaker, on_ok_weaker}
 use Rattle.ultra_args.specs.declared.Invocation.TheVariants.{Run, Events, Requests, Measure, Order, Explain, Check, Para, List as ListOf, Sweep, Lib}
-use Rattle.ultra_args.specs.declared.Parsed.TheVariants as parsed
+use Rattle.ultra_command_line.specs.declared.Parsed.TheVariants as parsed
 use Rattle.ultra_requests.specs.EventLines.{events_of}
 use Rattle.ultra_requests.specs.RequestTable.{requests_of}
 use Rattle.ultra_inputs.specs.Failure.{read_failures}
@@ -11,7 +11,7 @@ use Rattle.ultra_inputs.specs.Traffic.{traffic, WroteText}
 use Rattle.ultra_commands.specs.Listing.{WroteListing, ListFails}
 use Rattle.ultra_commands.specs.Stops.{WroteRun, RunFails}
 use Rattle.ultra_commands.specs.Order.{order_of}
-use Rattle.ultra_commands.specs.Explanation.{explanation_of}
+use Rattle.ultra_explain_command.specs.Explanation.{explanation_of}
 use Rattle.ultra_commands.specs.Coordination.{WroteProgram, LibFails}
 use Rattle.ultra_commands.specs.Outputs.{measures_asked, part_asked}
 use Rattle.ultra_commands.specs.Check.{WroteLegal, CheckFails}

@@ -1,3 +1,4 @@
+use Rattle.std.proofs.lemmas.Grind.{common_steps}
 use Rattle.std.proofs.Common.{◌≡◌, arith}
 use Rattle.ultra_cycle_law.specs.Whole.{empty_switch}
 use Rattle.ultra_block.proofs.Built.{is_fresh, row_put}
@@ -11,3 +12,18 @@ loop-number-preserved c =
     let empty : c.in_ok-switch.switch ≡ empty_switch c.args.config.now = grind arith in
     let row = row_put _ _ _ _ _ c.loop-number.invariant.switches (grind arith) empty in
     grind arith
+
+pub returns-in_err-block : goal.returns-in_err-block
+returns-in_err-block c = grind (arith, common_steps)
+
+pub loop-number-init : goal.loop-number-init
+loop-number-init c = grind (arith, common_steps)
+
+pub returns-in_err-switch : goal.returns-in_err-switch
+returns-in_err-switch c = grind (arith, common_steps)
+
+pub loop-number-2-init : goal.loop-number-2-init
+loop-number-2-init c = grind (arith, common_steps)
+
+pub returns-in_err-new_module : goal.returns-in_err-new_module
+returns-in_err-new_module c = grind (arith, common_steps)

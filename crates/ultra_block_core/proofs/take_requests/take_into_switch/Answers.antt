@@ -1,3 +1,4 @@
+use Rattle.std.proofs.lemmas.Grind.{common_steps}
 use Rattle.std.proofs.Common.{arith, get_or-set_other}
 use Rattle.ultra_block_core.proofs.Common.{combined_alone, combined_both, emptied, emptied_first, emptied_in_turn, none_combined}
 use Rattle.ultra_block_core.proofs.take_requests.take_into_switch.Goals as goal
@@ -27,3 +28,9 @@ returns-clause-links c = let apart = c.requires.inlets.apart c.requires.is.withi
 
 pub clear-requires : goal.clear-requires
 clear-requires c = grind (arith, emptied, emptied_first)
+
+pub returns-clause-places : goal.returns-clause-places
+returns-clause-places c = grind (arith, common_steps)
+
+pub returns-clause-few : goal.returns-clause-few
+returns-clause-few c = grind (arith, common_steps)

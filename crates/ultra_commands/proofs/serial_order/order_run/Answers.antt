@@ -6,7 +6,7 @@ use Rattle.ultra_msg.proofs.Prefixes.{takes_none}
 use Rattle.ultra_serial_law.specs.SerialList.{serial_list}
 use Rattle.ultra_serial.specs.OrderedRunState.{OrderedRunState, whole_list}
 use Rattle.ultra_commands.specs.Order.{order_of, order_text}
-use Rattle.ultra_commands.proofs.LastCycle.{list_of_all_cycles}
+use Rattle.ultra_explain_command.proofs.LastCycle.{list_of_all_cycles}
 use Rattle.ultra_commands.proofs.serial_order.order_run.Goals as goal
 
 pub returns-in_err-run-clause-ok : goal.returns-in_err-run-clause-ok

@@ -1,3 +1,4 @@
+use Rattle.std.proofs.lemmas.Grind.{common_steps}
 use Rattle.std.proofs.Common.{arith, take, get_or, subst, sym}
 use Rattle.std.proofs.lemmas.List.{take_more}
 use Rattle.std.proofs.lemmas.Option.{slice_get-get_or}
@@ -19,3 +20,12 @@ loop-index-preserved c =
     let at = slice_get-get_or xs n some_answer (omega arith) in
     subst (λ us. AreAnswersByName (list_named c.push.new.self xs) us) (sym (take_more xs n some_answer (omega arith)))
     (more_by_name (λ (a : LoggedAnswer). a.pe) (λ (a : LoggedAnswer). a.number) (list_named c.loop-index.named xs) (take n xs) c.loop-index.invariant (list_named c.push.new.self xs) x (λ p q. c.in_ok-push.ensures x at p q))
+
+pub returns-in_err-named : goal.returns-in_err-named
+returns-in_err-named c = grind (arith, common_steps)
+
+pub returns-in_err-push : goal.returns-in_err-push
+returns-in_err-push c = grind (arith, common_steps)
+
+pub returns : goal.returns
+returns c = grind (arith, common_steps)

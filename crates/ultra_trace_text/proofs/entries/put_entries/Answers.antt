@@ -1,3 +1,4 @@
+use Rattle.std.proofs.lemmas.Grind.{common_steps}
 use Rattle.std.proofs.Common.{arith}
 use Rattle.std.proofs.lemmas.List.{take_all}
 use Rattle.ultra_io.proofs.Writing.{◌then◌, ◌moved◌}
@@ -18,3 +19,6 @@ pub returns : goal.returns
 returns g c =
     let all = rw (take_all c.loop-index.index (g.E.Entries.entries c.args.entries.now) (omega arith)) at c.loop-index.invariant.goes_on in
     all then c.end_line.ensures
+
+pub loop-index-init : goal.loop-index-init
+loop-index-init g c = grind (arith, common_steps)

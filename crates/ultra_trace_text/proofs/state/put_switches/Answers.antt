@@ -1,3 +1,4 @@
+use Rattle.std.proofs.lemmas.Grind.{common_steps}
 use Rattle.std.proofs.Common.{◌+◌, ◌-◌, ◌^◌, arith, sym, ◌∙◌}
 use Rattle.ultra_io.proofs.Writing.{◌then◌}
 use Rattle.ultra_topology.specs.Numbers.{switch_count}
@@ -32,3 +33,27 @@ returns g c =
 
 pub loop-switch-init : goal.loop-switch-init
 loop-switch-init g c = none_written _ (rw c.into_iter-switch-iterator.ensures.into_iter_gives c.switches_in-switch-items.ensures)
+
+pub switches_in-switch-items-requires : goal.switches_in-switch-items-requires
+switches_in-switch-items-requires g c = grind (arith, common_steps)
+
+pub loop-switch-init-derived : goal.loop-switch-init-derived
+loop-switch-init-derived g c = grind (arith, common_steps)
+
+pub next-requires : goal.next-requires
+next-requires g c = grind (arith, common_steps)
+
+pub put_port-requires-clause-stage : goal.put_port-requires-clause-stage
+put_port-requires-clause-stage g c = grind (arith, common_steps)
+
+pub put_port-requires-clause-position : goal.put_port-requires-clause-position
+put_port-requires-clause-position g c = grind (arith, common_steps)
+
+pub overflow_add-first : goal.overflow_add-first
+overflow_add-first g c = grind (arith, common_steps)
+
+pub put_port-requires-in-loop-switch-clause-stage : goal.put_port-requires-in-loop-switch-clause-stage
+put_port-requires-in-loop-switch-clause-stage g c = grind (arith, common_steps)
+
+pub put_port-requires-in-loop-switch-clause-position : goal.put_port-requires-in-loop-switch-clause-position
+put_port-requires-in-loop-switch-clause-position g c = grind (arith, common_steps)

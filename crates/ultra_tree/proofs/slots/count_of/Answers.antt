@@ -1,3 +1,4 @@
+use Rattle.std.proofs.lemmas.Grind.{common_steps}
 use Rattle.std.proofs.Common.{◌*◌, ◌<◌, length, sym, ◌∙◌, arith}
 use Rattle.ultra_tree.proofs.Rows.{one_more, none_more}
 use Rattle.ultra_tree.proofs.slots.count_of.Goals as goal
@@ -22,3 +23,9 @@ loop-place-preserved g c =
           let same = none_more p ss i s within c.index-slots-place.is f from (sym c.is_free.ensures ∙ w.if-not-is_free.false) in
           record { counted = omega (arith, same, counted, w.count-is); few = omega (arith, few, from, w.count-is) }
     ]
+
+pub loop-place-init : goal.loop-place-init
+loop-place-init g c = grind (arith, common_steps)
+
+pub returns : goal.returns
+returns g c = grind (arith, common_steps)

@@ -1,3 +1,4 @@
+use Rattle.std.proofs.lemmas.Grind.{common_steps}
 use Rattle.std.proofs.Common.{◌≡◌, ℕ, suc, ◌+◌, ◌*◌, ◌-◌, ◌<◌, subst, sym, ◌∙◌, arith}
 use Rattle.ultra_serial_law.specs.Explicable.{held_by}
 use Rattle.ultra_tree.specs.Slots.{trees_in_slots}
@@ -13,3 +14,6 @@ loop-place-preserved g c =
     let left : end - i ≡ suc (end - (i + 1)) = omega (arith, c.loop-place-test.true) in
     let room = subst (λ (k : ℕ). held_by p (trees_in_slots p ss i k) < k) left c.loop-place.invariant in
     room_left p ss i c.index-slots-place.result (omega (arith, c.requires.within, c.loop-place-test.true)) c.index-slots-place.is (end - (i + 1)) (sym c.is_free.ensures ∙ c.if-is_free.false) room
+
+pub loop-place-init : goal.loop-place-init
+loop-place-init g c = grind (arith, common_steps)

@@ -1,3 +1,4 @@
+use Rattle.std.proofs.lemmas.Grind.{common_steps}
 use Rattle.std.proofs.Common.{◌*◌, ◌≤◌, length, ap, sym, ◌∙◌, arith}
 use Rattle.ultra_tree.specs.Slots.{trees_under}
 use Rattle.ultra_tree.proofs.Rows.{slots_past, row_past, row_within, first_for, still_none}
@@ -19,3 +20,18 @@ pub loop-place-preserved : goal.loop-place-preserved
 loop-place-preserved g c =
     let within = row_within c.args.elements c.args.most_open c.args.pe c.if-pe-elements.false in
     still_none c.args.pe c.args.cell c.args.slots.now (c.args.pe * c.args.most_open) c.loop-place.place c.index-slots-place.result c.loop-place.auto.place (omega (arith, within, c.requires, c.loop-place-test.true)) c.index-slots-place.is (sym c.is_for.ensures ∙ c.if-is_for.false) c.loop-place.invariant
+
+pub returns-then-pe-elements-clause-found : goal.returns-then-pe-elements-clause-found
+returns-then-pe-elements-clause-found g c = grind (arith, common_steps)
+
+pub loop-place-init : goal.loop-place-init
+loop-place-init g c = grind (arith, common_steps)
+
+pub returns-then-is_for-clause-none : goal.returns-then-is_for-clause-none
+returns-then-is_for-clause-none g c = grind (arith, common_steps)
+
+pub returns-clause-found : goal.returns-clause-found
+returns-clause-found g c = grind (arith, common_steps)
+
+pub returns-clause-none : goal.returns-clause-none
+returns-clause-none g c = grind (arith, common_steps)

@@ -1,3 +1,4 @@
+use Rattle.std.proofs.lemmas.Grind.{common_steps}
 use Rattle.std.proofs.Common.{Some, arith}
 use Rattle.ultra_block_core.proofs.{Common.get_or_default, Common.faulted_stops, Common.holds_as_before, Common.issued_holds, Common.issued_runs, Common.went_on, Known.element_kept, Known.same_facts}
 use Rattle.ultra_block_core.proofs.block.Block.execute_element.Goals as goal
@@ -23,3 +24,24 @@ invariant_of-self-in-Issued g c =
 pub invariant_of-self-in-Faulted : goal.invariant_of-self-in-Faulted
 invariant_of-self-in-Faulted g c =
     element_kept c.self.invariant c.note_element_stopped-in-Faulted.ensures c.args.pe (Some c.in-Some.element) (Some c.execute-outcome.new.self) (grind (arith, get_or_default)) (grind (arith, holds_as_before, faulted_stops)) (grind arith)
+
+pub invariant_of-self : goal.invariant_of-self
+invariant_of-self g c = grind (arith, common_steps)
+
+pub returns-in_default : goal.returns-in_default
+returns-in_default g c = grind (arith, common_steps)
+
+pub returns-in-AtRest : goal.returns-in-AtRest
+returns-in-AtRest g c = grind (arith, common_steps)
+
+pub returns-then-has_stopped : goal.returns-then-has_stopped
+returns-then-has_stopped g c = grind (arith, common_steps)
+
+pub returns-else-has_stopped : goal.returns-else-has_stopped
+returns-else-has_stopped g c = grind (arith, common_steps)
+
+pub returns-in-Issued : goal.returns-in-Issued
+returns-in-Issued g c = grind (arith, common_steps)
+
+pub returns-in-Faulted : goal.returns-in-Faulted
+returns-in-Faulted g c = grind (arith, common_steps)

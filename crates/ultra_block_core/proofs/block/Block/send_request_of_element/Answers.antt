@@ -1,3 +1,4 @@
+use Rattle.std.proofs.lemmas.Grind.{common_steps}
 use Rattle.std.proofs.Common.{Some, arith, rules}
 use Rattle.ultra_topology.proofs.Readers.{element_leads}
 use Rattle.ultra_block_core.proofs.{Common.get_or_default, Common.nat_tests, Known.element_kept}
@@ -9,3 +10,18 @@ invariant_of-self-2 g c =
 
 pub send_from_end-requires-clause-leads : goal.send_from_end-requires-clause-leads
 send_from_end-requires-clause-leads g c = element_leads _ _ _ (omega arith) (omega arith) (rw (← c.self.view_is) at c.requires.is).small (search rules)
+
+pub invariant_of-self : goal.invariant_of-self
+invariant_of-self g c = grind (arith, common_steps)
+
+pub returns-in_default : goal.returns-in_default
+returns-in_default g c = grind (arith, common_steps)
+
+pub invariant_of-self-then-not-may_leave : goal.invariant_of-self-then-not-may_leave
+invariant_of-self-then-not-may_leave g c = grind (arith, common_steps)
+
+pub returns-then-not-may_leave : goal.returns-then-not-may_leave
+returns-then-not-may_leave g c = grind (arith, common_steps)
+
+pub returns : goal.returns
+returns g c = grind (arith, common_steps)

@@ -1,3 +1,4 @@
+use Rattle.std.proofs.lemmas.Grind.{common_steps}
 use Rattle.std.proofs.Common.{◌≡◌, Bool, false, ◌||◌, Option, Some, None, arith}
 use Rattle.std.specs.Prelude.{is_some}
 use Rattle.ultra_block_core.proofs.{Common.Ports, Common.get_or_default, Common.nat_tests, Known.same_facts, Known.switch_kept, Noted.shorter}
@@ -14,3 +15,15 @@ pub invariant_of-self-else-send_from_switch : goal.invariant_of-self-else-send_f
 invariant_of-self-else-send_from_switch g c =
     let none = none_go _ _ c.send_from_switch.ensures.go c.if-send_from_switch.false in
     switch_kept c.self.invariant (same_facts c.self.inside.sets c.args.unit) (Some c.in-Some.switch) (Some c.send_from_switch.new.switch) (grind (arith, get_or_default)) (grind arith) (grind arith)
+
+pub invariant_of-self : goal.invariant_of-self
+invariant_of-self g c = grind (arith, common_steps)
+
+pub returns-in_default : goal.returns-in_default
+returns-in_default g c = grind (arith, common_steps)
+
+pub returns-then-send_from_switch : goal.returns-then-send_from_switch
+returns-then-send_from_switch g c = grind (arith, common_steps)
+
+pub returns-else-send_from_switch : goal.returns-else-send_from_switch
+returns-else-send_from_switch g c = grind (arith, common_steps)

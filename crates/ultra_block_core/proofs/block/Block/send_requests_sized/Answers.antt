@@ -1,3 +1,4 @@
+use Rattle.std.proofs.lemmas.Grind.{common_steps}
 use Rattle.std.proofs.Common.{arith}
 use Rattle.ultra_block_core.proofs.Known.{no_request_held_past, no_requests_sent}
 use Rattle.ultra_block_core.proofs.block.Block.send_requests_sized.Goals as goal
@@ -7,3 +8,9 @@ is_empty_sized-requires g c = λ is. no_request_held_past c.self.invariant (omeg
 
 pub returns-then-is_empty_sized : goal.returns-then-is_empty_sized
 returns-then-is_empty_sized g c = rw (c.self.view_is) at (no_requests_sent c.self.invariant c.args.closed.now (c.is_empty_sized.ensures.0 c.if-is_empty_sized.true))
+
+pub returns-then-are_all_open : goal.returns-then-are_all_open
+returns-then-are_all_open g c = grind (arith, common_steps)
+
+pub returns-else-are_all_open : goal.returns-else-are_all_open
+returns-else-are_all_open g c = grind (arith, common_steps)

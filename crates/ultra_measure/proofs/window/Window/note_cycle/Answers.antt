@@ -1,3 +1,4 @@
+use Rattle.std.proofs.lemmas.Grind.{common_steps}
 use Rattle.std.proofs.Common.{◌+◌, length, ap, arith}
 use Rattle.ultra_model.specs.Machine.{Machine, size}
 use Rattle.ultra_model.specs.Balance.{total}
@@ -33,3 +34,9 @@ returns-clause-kept g c =
       replies = c.note_cycle-3.ensures;
       records = c.note_cycle-4.ensures;
     }
+
+pub returns-clause-from : goal.returns-clause-from
+returns-clause-from g c = grind (arith, common_steps)
+
+pub returns-clause-rows : goal.returns-clause-rows
+returns-clause-rows g c = grind (arith, common_steps)

@@ -1,3 +1,4 @@
+use Rattle.std.proofs.lemmas.Grind.{common_steps}
 use Rattle.std.proofs.Common.{length, ap, arith}
 use Rattle.ultra_tree.specs.Absorb.{ExplainerState}
 use Rattle.ultra_tree.proofs.Rows.{row_within}
@@ -9,3 +10,6 @@ count_of-requires g c =
     let within = row_within c.self.inside.elements c.self.inside.most_open c.args.pe (omega (arith, n, c.requires)) in
     let all = ap (λ ss. length ss) c.as_slice.ensures.value in
     record { within = omega (arith, within, all, c.self.invariant.2.size) }
+
+pub returns : goal.returns
+returns g c = grind (arith, common_steps)

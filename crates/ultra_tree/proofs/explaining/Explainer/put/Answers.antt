@@ -1,3 +1,4 @@
+use Rattle.std.proofs.lemmas.Grind.{common_steps}
 use Rattle.std.proofs.Common.{◌≡◌, ◌∷◌, length, set, ap, subst, sym, ◌∙◌, arith}
 use Rattle.std.proofs.lemmas.Option.{slice_get_within}
 use Rattle.ultra_serial_law.specs.Tree.{kept, tree_of}
@@ -44,3 +45,6 @@ invariant_of-self g c =
       subst (λ us. AreWithin n m us) (sym trees) within,
       subst (λ us. AreSlotsOf n m (set ss i (Held a c.args.tree)) us) (sym trees) (slots_put n m p a ss ks i c.self.invariant.2 at none c.args.tree),
     )
+
+pub returns : goal.returns
+returns g c = grind (arith, common_steps)

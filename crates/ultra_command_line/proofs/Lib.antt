@@ -1,0 +1,2 @@
+pub mod RunWords
+pub mod Flags

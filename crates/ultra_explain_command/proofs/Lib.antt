@@ -1,0 +1,4 @@
+pub mod Firsts
+pub mod InRange
+pub mod Runs
+pub mod LastCycle

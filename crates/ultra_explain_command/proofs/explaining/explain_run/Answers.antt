@@ -1,0 +1,70 @@
+use Rattle.std.proofs.Common.{inl, inr, refl}
+use Rattle.std.proofs.lemmas.Result.{err_from_is_err_and}
+use Rattle.ultra_msg.proofs.Parts.{at_error}
+use Rattle.ultra_msg.proofs.Prefixes.{takes_none}
+use Rattle.ultra_explain_command.specs.Explanation.{at_start}
+use Rattle.ultra_explain_command.proofs.explaining.explain_run.Goals as goal
+
+pub returns-in_err-heap-clause-ok : goal.returns-in_err-heap-clause-ok
+returns-in_err-heap-clause-ok g c =
+    let p = err_from_is_err_and c.from_residual.result c.from_residual.ensures.1 in
+    rw p.1 tt
+
+pub returns-in_err-heap-clause-err : goal.returns-in_err-heap-clause-err
+returns-in_err-heap-clause-err g c = at_error c.from_residual.result (takes_none _ _)
+
+pub returns-in_err-heap-clause-fault : goal.returns-in_err-heap-clause-fault
+returns-in_err-heap-clause-fault g c =
+    let p = err_from_is_err_and c.from_residual.result c.from_residual.ensures.1 in
+    rw (p.1, p.2) (inr (inl refl))
+
+pub returns-in_err-heap-clause-full : goal.returns-in_err-heap-clause-full
+returns-in_err-heap-clause-full g c =
+    let p = err_from_is_err_and c.from_residual.result c.from_residual.ensures.1 in
+    rw (p.1, p.2) (λ full. absurd cc)
+
+pub returns-in_err-heap-clause-still : goal.returns-in_err-heap-clause-still
+returns-in_err-heap-clause-still g c =
+    let p = err_from_is_err_and c.from_residual.result c.from_residual.ensures.1 in
+    rw p.1 tt
+
+pub returns-in_err-explainer-clause-ok : goal.returns-in_err-explainer-clause-ok
+returns-in_err-explainer-clause-ok g c =
+    let p = err_from_is_err_and c.from_residual-in_err-explainer.result c.from_residual-in_err-explainer.ensures.1 in
+    rw p.1 tt
+
+pub returns-in_err-explainer-clause-err : goal.returns-in_err-explainer-clause-err
+returns-in_err-explainer-clause-err g c = at_error c.from_residual-in_err-explainer.result (takes_none _ _)
+
+pub returns-in_err-explainer-clause-fault : goal.returns-in_err-explainer-clause-fault
+returns-in_err-explainer-clause-fault g c =
+    let p = err_from_is_err_and c.from_residual-in_err-explainer.result c.from_residual-in_err-explainer.ensures.1 in
+    rw (p.1, p.2) (inl c.in_err-explainer.ensures.no_room)
+
+pub returns-in_err-explainer-clause-full : goal.returns-in_err-explainer-clause-full
+returns-in_err-explainer-clause-full g c =
+    let p = err_from_is_err_and c.from_residual-in_err-explainer.result c.from_residual-in_err-explainer.ensures.1 in
+    rw (p.1, p.2) (λ full. at_start refl)
+
+pub returns-in_err-explainer-clause-still : goal.returns-in_err-explainer-clause-still
+returns-in_err-explainer-clause-still g c =
+    let p = err_from_is_err_and c.from_residual-in_err-explainer.result c.from_residual-in_err-explainer.ensures.1 in
+    rw p.1 tt
+
+pub returns-clause-ok : goal.returns-clause-ok
+returns-clause-ok g c = c.explain_program.ensures.ok
+
+pub returns-clause-err : goal.returns-clause-err
+returns-clause-err g c = c.explain_program.ensures.err
+
+pub returns-clause-fault : goal.returns-clause-fault
+returns-clause-fault g c = c.explain_program.ensures.fault
+
+pub returns-clause-full : goal.returns-clause-full
+returns-clause-full g c = c.explain_program.ensures.full
+
+pub returns-clause-still : goal.returns-clause-still
+returns-clause-still g c = c.explain_program.ensures.still
+
+pub returns-clause-counted : goal.returns-clause-counted
+returns-clause-counted g c = c.explain_program.ensures.counted
