@@ -12,6 +12,12 @@ use ultra_io::{Account, Source};
 /// A fetch-and-add of 1 to cell 0.
 pub(crate) const ADDS_ONE: &[u8] = b"li r1 0\nli r2 1\nfaa r3 r1 r2\nhalt\n";
 
+/// The words that ask for the trace of `p.s` on a machine of `c.toml`.
+pub(crate) static RUN: [&str; 4] = ["ultra", "run", "c.toml", "p.s"];
+
+/// The words that ask for its serial order.
+pub(crate) static ORDER: [&str; 4] = ["ultra", "order", "c.toml", "p.s"];
+
 /// What a call of the program did: its status, and what it wrote to standard output and to standard
 /// error.
 #[derive(Drop)]

@@ -1,14 +1,10 @@
 //! The program over files in memory.
 
-use crate::calls::{ADDS_ONE, call_into, check_command};
+use crate::calls::{ADDS_ONE, ORDER, RUN, call_into, check_command};
 use crate::host::Host;
 use std::alloc::{AllocError, Global};
 use std::test::Fail;
 use test_sinks::SinkLimits;
-
-static RUN: [&str; 4] = ["ultra", "run", "c.toml", "p.s"];
-
-static ORDER: [&str; 4] = ["ultra", "order", "c.toml", "p.s"];
 
 /// The trace of `halt` on a machine of `size` processing elements.
 fn trace_of_halt(alloc: Global, size: u32) -> Result<String, AllocError> {

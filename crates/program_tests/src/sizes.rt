@@ -1,6 +1,6 @@
 //! Runs of machines with the most places and with the fewest.
 
-use crate::calls::check_command;
+use crate::calls::{ORDER, RUN, check_command};
 use crate::host::Host;
 use crate::size_traces;
 use std::test::Fail;
@@ -147,10 +147,6 @@ static SIZES: [Example; 2] = [
     },
 ];
 
-static RUN: [&str; 4] = ["ultra", "run", "c.toml", "p.s"];
-
-static ORDER: [&str; 4] = ["ultra", "order", "c.toml", "p.s"];
-
 static EXPLAIN: [&str; 4] = ["ultra", "explain", "c.toml", "p.s"];
 
 /// Asserts which trace, serial order and explanation a run has.
@@ -164,7 +160,7 @@ fn check_example<R: Host>(rt: &R, example: &Example) -> Result<(), Fail> {
 }
 
 #[test]
-fn runs_of_all_numbers_of_places_are_written(rt: HostRuntime) -> Result<(), Fail> {
+fn runs_with_the_most_and_the_fewest_places_are_written(rt: HostRuntime) -> Result<(), Fail> {
     for example in &SIZES {
         check_example(&rt, example)?;
     }
