@@ -11,14 +11,14 @@ const RUN_WANTS: &str = "--only is all, events or end";
 
 /// The text of a usage fault of `para`.
 const PARA_WANTS: &str = "the steps come from SCHEDULE or from --seed S, and not from both; \
-                              --steps T belongs to --seed; --only is all or end";
+                          --steps T belongs to --seed; --only is all or end";
 
 /// The text of a usage fault of `sweep`.
 const SWEEP_WANTS: &str = "--every E belongs to --measure";
 
 /// The text of a usage fault of `lib`.
 const LIB_WANTS: &str = "the coordination programs are gate B T, queue Z T, rw G T, barrier T \
-                             and tickets T, with each number in decimal digits";
+                         and tickets T, with each number in decimal digits";
 
 /// What the command wants of its arguments besides the table.
 pub fn wanted_by(matches: &ArgMatches<'_>) -> &'static str {
