@@ -7,15 +7,11 @@ use std::process::Abort;
 use std::test::Fail;
 use test_sinks::{MemorySink, SinkLimits};
 use ultra_commands::main_with;
-use ultra_io::{Account, Source};
 
 /// A fetch-and-add of 1 to cell 0.
 pub(crate) const ADDS_ONE: &[u8] = b"li r1 0\nli r2 1\nfaa r3 r1 r2\nhalt\n";
 
-/// The words that ask for the trace of `p.s` on a machine of `c.toml`.
-pub(crate) static RUN: [&str; 4] = ["ultra", "run", "c.toml", "p.s"];
-
-/// The words that ask for its serial order.
+/// The words that ask for the serial order of `p.s` on a machine of `c.toml`.
 pub(crate) static ORDER: [&str; 4] = ["ultra", "order", "c.toml", "p.s"];
 
 /// What a call of the program did: its status, and what it wrote to standard output and to standard
@@ -61,10 +57,10 @@ impl Ended {
 }
 
 /// Calls the program, and gives its status. No test rests on what the contract of `main_with` says.
-fn status_of<'w, R: Host, F: Source>(
+fn status_of<'w, R: Host>(
     rt: &R,
     words: &'w [&'w str],
-    source: &mut F,
+    source: &mut MemoryFiles<'_>,
     out: &mut MemorySink,
     err: &mut MemorySink,
 ) -> u8 {
@@ -72,10 +68,10 @@ fn status_of<'w, R: Host, F: Source>(
 }
 
 /// Calls the program over these files, with streams of these limits.
-pub(crate) fn call_over<'w, R: Host, F: Source>(
+pub(crate) fn call_over<'w, R: Host>(
     rt: &R,
     words: &'w [&'w str],
-    source: &mut F,
+    source: &mut MemoryFiles<'_>,
     out: SinkLimits,
     err: SinkLimits,
 ) -> Result<Ended, Fail> {
@@ -93,11 +89,7 @@ pub(crate) fn call_within<'t, R: Host>(
     out: SinkLimits,
     err: SinkLimits,
 ) -> Result<Ended, Fail> {
-    let mut files = MemoryFiles {
-        files,
-        account: Account::Opened,
-    };
-    call_over(rt, words, &mut files, out, err)
+    call_over(rt, words, &mut MemoryFiles::new(files), out, err)
 }
 
 /// Calls the program over files in memory. Where memory or a thread was refused, that is the error

@@ -1,43 +1,13 @@
 //! Each write and each read fails in turn.
 
-ghost use Rattle.ultra_io.specs.Account.{files_in, failures_in};
-
 use crate::calls::{ADDS_ONE, Ended, call_over, call_within, unless_refused};
 use crate::equal::{check_equal, check_equal_for};
 use crate::host::Host;
 use crate::memory_files::MemoryFiles;
-use std::alloc::Global;
 use std::process::Abort;
 use std::test::Fail;
 use test_sinks::SinkLimits;
-use ultra_io::{Account, Source, SourceFault};
-
-/// Files in memory, where one read fails: the one after `sound_reads` reads.
-#[derive(Drop)]
-struct FaultyFiles<'f> {
-    files: MemoryFiles<'f>,
-    sound_reads: usize,
-    wants_memory: bool,
-}
-
-impl Source for FaultyFiles<'_> {
-    ghost files = { λ s. files_in s.files.account };
-
-    ghost failures = { λ s. failures_in s.files.account };
-
-    fn read(&mut self, alloc: Global, path: &str) -> Result<Vec<u8>, SourceFault> {
-        if self.sound_reads == 0 {
-            self.sound_reads = usize::MAX;
-            if self.wants_memory {
-                return Err(SourceFault::NoMemory);
-            }
-            self.files.account.note_failure();
-            return Err(SourceFault::NotRead);
-        }
-        self.sound_reads -= 1;
-        self.files.read(alloc, path)
-    }
-}
+use ultra_io::SourceFault;
 
 /// Two jobs, of two files each.
 const JOBS: &[u8] = b"\
@@ -364,23 +334,11 @@ fn call_faulty<'w, R: Host>(
     rt: &R,
     words: &'w [&'w str],
     sound_reads: usize,
-    wants_memory: bool,
+    failure: SourceFault,
 ) -> Result<Ended, Fail> {
-    let mut source = FaultyFiles {
-        files: MemoryFiles {
-            files: &FILES,
-            account: Account::Opened,
-        },
-        sound_reads,
-        wants_memory,
-    };
-    let ended = call_over(
-        rt,
-        words,
-        &mut source,
-        SinkLimits::none(),
-        SinkLimits::none(),
-    )?;
+    let mut source = MemoryFiles::failing_after(&FILES, sound_reads, failure);
+    let no_limits = SinkLimits::none();
+    let ended = call_over(rt, words, &mut source, no_limits, no_limits)?;
     assert!(rt; ended.out.is_empty(), "{words:?}");
     Ok(ended)
 }
@@ -393,7 +351,7 @@ fn check_unread<'w, R: Host>(
     sound_reads: usize,
     line: &str,
 ) -> Result<(), Fail> {
-    let ended = call_faulty(rt, words, sound_reads, false)?;
+    let ended = call_faulty(rt, words, sound_reads, SourceFault::NotRead)?;
     if ended.status == 4 {
         return Err("no memory".into());
     }
@@ -408,7 +366,7 @@ fn check_no_memory<'w, R: Host>(
     words: &'w [&'w str],
     sound_reads: usize,
 ) -> Result<(), Fail> {
-    let ended = call_faulty(rt, words, sound_reads, true)?;
+    let ended = call_faulty(rt, words, sound_reads, SourceFault::NoMemory)?;
     ended.check(rt, (4, "", "ultra: no memory\n"));
     Ok(())
 }

@@ -19,7 +19,3 @@ mod memory_files;
 mod programs;
 #[cfg(test)]
 mod settings;
-#[cfg(test)]
-mod size_traces;
-#[cfg(test)]
-mod sizes;

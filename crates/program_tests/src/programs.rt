@@ -1,34 +1,9 @@
 //! The program over files in memory.
 
-use crate::calls::{ADDS_ONE, ORDER, RUN, call_into, check_command};
-use crate::host::Host;
+use crate::calls::{ADDS_ONE, ORDER, call_into, check_command};
 use std::alloc::{AllocError, Global};
 use std::test::Fail;
 use test_sinks::SinkLimits;
-
-/// The trace of `halt` on a machine of `size` processing elements.
-fn trace_of_halt(alloc: Global, size: u32) -> Result<String, AllocError> {
-    let mut trace = String::from_str(alloc, "ultra trace 2\ncycle 0\nend quiet\n")?;
-    for pe in 0..size {
-        trace.push_str(format!(in alloc; "pe {pe} halted 0\n")?.as_str())?;
-    }
-    Ok(trace)
-}
-
-/// Numbers of stages, each with how many processing elements a machine has.
-static SIZES: [(u32, u32); 6] = [(1, 2), (2, 4), (3, 8), (4, 16), (5, 32), (6, 64)];
-
-/// A machine of any number of stages is quiet after one cycle of `halt`.
-#[test]
-fn all_numbers_of_stages_run(rt: HostRuntime) -> Result<(), Fail> {
-    for (stages, size) in &SIZES {
-        let settings = format!(in rt.alloc(); "stages = {stages}")?;
-        let trace = trace_of_halt(rt.alloc(), *size)?;
-        let wanted = (0, trace.as_str(), "");
-        check_command(&rt, &RUN, settings.as_bytes(), b"halt", wanted)?;
-    }
-    Ok(())
-}
 
 /// A program by which one processing element loads cell 0 `count` times.
 fn many_loads(alloc: Global, count: usize) -> Result<String, Fail> {

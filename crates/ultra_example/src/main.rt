@@ -91,15 +91,11 @@ fn cell(machine: &Machine, number: Cell) -> Option<Word> {
     machine.memory_module(number % size).peek(number / size)
 }
 
-fn main(rt: HostRuntime) -> anyhow::Result<()> {
-    let config = settings_from(rt.alloc(), SETTINGS)?;
-    let program = assemble(rt.alloc(), LOCK)?;
-    for seed in 0..1000 {
-        run_schedule(rt.alloc(), &config, &program, seed)?;
-    }
-    println!(rt; "paracomputer: no addition is lost in 1000 schedules")?;
-
-    let mut machine = Machine::new(rt.alloc(), &config, &program)?;
+/// Runs the lock on the machine, and says after how many cycles all have been inside.
+///
+/// An error says that the machine lost an addition.
+fn run_machine(alloc: Global, config: &Config, program: &Program) -> anyhow::Result<u32> {
+    let mut machine = Machine::new(alloc, config, program)?;
     for _ in 0..config.cycles() {
         if machine.is_quiet() || machine.done() >= config.cycles() {
             break;
@@ -108,9 +104,17 @@ fn main(rt: HostRuntime) -> anyhow::Result<()> {
     }
     let all = Some(config.net().size());
     ensure!(cell(&machine, 2) == all, "the machine lost an addition");
-    println!(rt;
-        "machine: all have been inside after {} cycles",
-        machine.done()
-    )?;
+    Ok(machine.done())
+}
+
+fn main(rt: HostRuntime) -> anyhow::Result<()> {
+    let config = settings_from(rt.alloc(), SETTINGS)?;
+    let program = assemble(rt.alloc(), LOCK)?;
+    for seed in 0..1000 {
+        run_schedule(rt.alloc(), &config, &program, seed)?;
+    }
+    println!(rt; "paracomputer: no addition is lost in 1000 schedules")?;
+    let cycles = run_machine(rt.alloc(), &config, &program)?;
+    println!(rt; "machine: all have been inside after {cycles} cycles")?;
     Ok(())
 }
