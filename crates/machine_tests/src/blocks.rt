@@ -1,8 +1,8 @@
 //! Machines cut into blocks: some cycles of them, and what happened in the last one.
 
 use crate::equal::check_equal;
+use crate::support::answered_event;
 use std::process::Abort;
-use test_support::answered_event;
 use ultra_machine::{Blocks, ProcessingElement};
 use ultra_mem::Module;
 use ultra_msg::{Event, Pe, Word};

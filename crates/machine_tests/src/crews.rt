@@ -3,6 +3,9 @@
 use crate::blocks::{element, event_is, lane, memory_module, replies, tree_is_answered};
 use crate::equal::check_equal;
 use crate::meeting::MeetingOfThree;
+use crate::support::{
+    COMBINED_PAIR, Counter, Holdup, Meeting, add_number, add_one, config, register,
+};
 use std::alloc::Global;
 use std::process::Abort;
 use std::sync::Wait;
@@ -10,9 +13,6 @@ use std::sync::atomic::Ordering;
 use std::test::Fail;
 use std::thread::Threads;
 use test_sinks::MemorySink;
-use test_support::{
-    COMBINED_PAIR, Counter, Holdup, Meeting, add_number, add_one, config, register,
-};
 use ultra_crew::{Crew, CrewFault, Gate, cycle_alone};
 use ultra_isa::{Activity, MachineFault, Processor};
 use ultra_machine::{Blocks, ProcessingElement};

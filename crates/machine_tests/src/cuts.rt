@@ -4,9 +4,9 @@
 use crate::blocks::{run_blocks, tree_is_answered};
 use crate::equal::check_equal;
 use crate::machines::{ends_with, four_become_one, machine, one_becomes_four, run_to};
+use crate::support::{add_number, combined_event, defaults};
 use std::process::Abort;
 use std::test::Fail;
-use test_support::{add_number, combined_event, defaults};
 use ultra_machine::{Blocks, Machine, PartitionFault};
 
 /// The machine before its sixth cycle, with the four requests on their way as one.

@@ -3,9 +3,9 @@
 
 use crate::equal::check_equal;
 use crate::machines::{machine, run};
+use crate::support::{add_one, defaults};
 use std::process::Abort;
 use std::test::Fail;
-use test_support::{add_one, defaults};
 use ultra_machine::Machine;
 use ultra_msg::Event;
 

@@ -1,13 +1,13 @@
 //! The worked run of two stages, in which four requests for cell 0 become one.
 
 use crate::equal::check_equal;
-use std::alloc::Global;
-use std::process::Abort;
-use std::test::Fail;
-use test_support::{
+use crate::support::{
     add_number, answer, answered_event, combined_event, defaults, issued_event, record_of_pair,
     served_event,
 };
+use std::alloc::Global;
+use std::process::Abort;
+use std::test::Fail;
 use ultra_isa::Program;
 use ultra_machine::{Config, Machine, RawSettings};
 use ultra_msg::{Event, Op, Pe, Request, Word};

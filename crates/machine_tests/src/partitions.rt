@@ -3,9 +3,9 @@
 use crate::blocks::{events_are, first_cell_is, lane, run_blocks};
 use crate::equal::check_equal;
 use crate::machines::{queue_is, record_is};
+use crate::support::{add_one, answered_event, config, record_of_pair};
 use std::process::Abort;
 use std::test::Fail;
-use test_support::{add_one, answered_event, config, record_of_pair};
 use ultra_machine::{Blocks, PartitionFault};
 use ultra_msg::Op;
 

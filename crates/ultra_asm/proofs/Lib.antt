@@ -11,6 +11,7 @@ pub mod Lines
 pub mod InBuffer
 pub mod Operands
 pub mod Places
+pub mod Refused
 pub mod RoundTrip
 pub mod Spelled
 pub mod Turns

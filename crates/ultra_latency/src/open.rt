@@ -43,10 +43,10 @@ impl Model for OpenRow {
 }
 
 /// The place of the first request for a cell, or `None` where there is none.
-fn place_of(open: &[OpenRequest], cell: Cell) -> Option<usize>
-    ensures { result ≡ position (λ o. o.cell == cell) open.now }
+fn place_of(requests: &[OpenRequest], cell: Cell) -> Option<usize>
+    ensures { result ≡ position (λ o. o.cell == cell) requests.now }
 {
-    open.iter().position(|open| open.cell == cell)
+    requests.iter().position(|request| request.cell == cell)
 }
 
 impl OpenRow {

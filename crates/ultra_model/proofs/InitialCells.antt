@@ -92,3 +92,7 @@ refused_at n given k d lt (inr h) =
 pub named_again : (n : ℕ) (given : List (ℤ × ℤ)) (x : ℤ × ℤ) (marks : List Bool) (cells : List (ℕ × ℕ)) (c : ℕ × ℕ) → IsMarked n given marks cells → c ≡ initial_cell x → c.0 < n → get_or marks c.0 false ≡ true → is_given_value (initial_cell x).0 (cells_of given) ≡ true
 named_again n given x marks cells c m is address set =
     ap (λ (i : ℕ × ℕ). is_given_value i.0 (cells_of given)) (sym is) ∙ (ap (is_given_value c.0) (sym m.value) ∙ (sym (m.marked c.0 address) ∙ set))
+
+-- given cells that are all marked are accepted
+pub all_accepted : (n : ℕ) (given : List (ℤ × ℤ)) (marks : List Bool) (cells : List (ℕ × ℕ)) → IsMarked n given marks cells → are_initial n given ≡ true
+all_accepted n given marks cells m = and_from _ _ m.good (ap are_different (sym m.value) ∙ m.different)

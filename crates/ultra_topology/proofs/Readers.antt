@@ -1,10 +1,10 @@
 -- The unit to which each link leads, computed over every network of at most six stages.
-use Rattle.std.proofs.Common.{◌≡◌, ◌≢◌, ℕ, ◌+◌, ◌-◌, ◌*◌, ◌/◌, ◌%◌, ◌^◌, ◌<◌, ◌≤◌, Bool, true, false, ◌&&◌, Option, Some, None, refl, subst, arith, ◌==◌, ◌||◌, nat_le, nat_lt, not}
+use Rattle.std.proofs.Common.{◌≡◌, ◌≢◌, ℕ, ◌+◌, ◌-◌, ◌*◌, ◌/◌, ◌%◌, ◌^◌, ◌<◌, ◌≤◌, Bool, true, false, ◌&&◌, Option, Some, None, refl, subst, sym, ap, ◌∙◌, List, get_or, arith, ◌==◌, ◌||◌, nat_le, nat_lt, not}
 use Rattle.ultra_topology.proofs.Common.{nat_tests, Ports, all_below_at, AreInlets, LeadOn, LeadsTo, at_both, link_count, reply_inlets, request_inlets, delivery_link, memory_link, link_number, reply_links, request_links, switch_count, switch_number, unit_count, reply_target, request_target, IsElement, IsModule, IsSwitch, index_of, stage_of}
 use Rattle.ultra_route.specs.Route.{shuffled}
 use Rattle.ultra_route.proofs.Table.{all_below}
 use Rattle.ultra_topology.proofs.{Put.has_places, Standing.is_switch}
-use Rattle.ultra_topology.specs.{Numbers.IsSmall, Ways.reply_targets, Ways.request_targets}
+use Rattle.ultra_topology.specs.{Numbers.IsSmall, Ways.reply_targets, Ways.request_targets, Wiring.AreNeighbours, Wiring.neighbours, declared.wiring.Neighbours.Neighbours}
 
 -- what is computed of every network
 pub each_network : (test : ℕ → Bool) → all_below (λ k. test (k + 1)) 6 ≡ true → (d : ℕ) → 1 ≤ d → d ≤ 6 → test d ≡ true
@@ -112,3 +112,16 @@ module_leads d m target low high small is = leads _ _ replies_read d low high _ 
 
 pub element_leads : (d p target : ℕ) → 1 ≤ d → d ≤ 6 → p < 2 ^ d → target ≡ switch_number d 0 (shuffled d p / 2) → LeadsTo (request_inlets d) d (link_number d d p) target
 element_leads d p target low high small is = leads _ _ requests_read d low high _ _ (grind arith) (grind arith)
+
+-- where messages lead from switch n, as the entry of the switch says, which is read at n
+module _ {d e n k : ℕ} {entries : List Neighbours} {entry : Neighbours} (low : 1 ≤ d) (high : d ≤ 6) (net_is : e ≡ d) (number_is : k ≡ n) (within : n < switch_count d) (are : AreNeighbours e (switch_count e) entries) (read : entry ≡ get_or entries k entry) where
+  entry_is : entry ≡ neighbours d (stage_of d n) (index_of d n)
+  entry_is =
+      let right = subst (λ x. AreNeighbours x (switch_count x) entries) net_is are in
+      read ∙ (ap (λ j. get_or entries j entry) number_is ∙ right.each n entry within)
+
+  pub entry_requests_lead : LeadOn (request_inlets d) d n entry.request_targets
+  entry_requests_lead = subst (λ (x : Neighbours). LeadOn (request_inlets d) d n x.request_targets) (sym entry_is) (requests_at d low high n within).0
+
+  pub entry_replies_lead : LeadOn (reply_inlets d) d n entry.reply_targets
+  entry_replies_lead = subst (λ (x : Neighbours). LeadOn (reply_inlets d) d n x.reply_targets) (sym entry_is) (replies_at d low high n within).0

@@ -1,8 +1,9 @@
 -- what slots hold, where one of them changes
-use Rattle.std.proofs.Common.{◌≡◌, ◌≢◌, ⊎_elim, ℕ, zero, suc, ◌+◌, ◌*◌, ◌-◌, ◌<◌, ◌≤◌, List, [], ◌∷◌, ◌++◌, length, set, get_or, replicate, true, false, ◌==◌, ◌&&◌, refl, arith, sym, ap, ◌∙◌, append_assoc, Some}
+use Rattle.std.proofs.Common.{◌≡◌, ◌≢◌, ⊎_elim, ℕ, zero, suc, ◌+◌, ◌*◌, ◌-◌, ◌^◌, ◌<◌, ◌≤◌, List, [], ◌∷◌, ◌++◌, length, set, get_or, replicate, true, false, ◌==◌, ◌&&◌, refl, arith, sym, ap, ◌∙◌, append_assoc, Some}
 use Rattle.std.specs.Prelude.{slice_get}
 use Rattle.std.proofs.lemmas.Bool.{cases_lt}
 use Rattle.std.proofs.lemmas.List.{append-nil}
+use Rattle.std.proofs.lemmas.Nat.{row_fits as fit_rows}
 use Rattle.std.proofs.lemmas.Option.{slice_get_past, slice_get_read}
 use Rattle.std.proofs.Math.Nat.{mul-le-mul_right}
 use Rattle.ultra_model.specs.Balance.{weight}
@@ -100,6 +101,10 @@ rows_apart m p q i ne from to j l h e =
     (λ (x : q ≤ p). absurd (omega (arith, row_within p m q (omega (arith, x, ne)), from, h, e)))
     (cases_lt p q)
 
+-- both ends of a row are numbers of 64 bits
+pub row_fits : (p m : ℕ) → p < 2 ^ 32 → m < 2 ^ 32 → p * m + m < 2 ^ 64
+row_fits p m l h = omega (arith, fit_rows p m (2 ^ 32) (2 ^ 32 - 1) l (omega (arith, h)))
+
 pub row_past : (n m p : ℕ) → n ≤ p → n * m ≤ p * m
 row_past n m p l = mul-le-mul_right {m = n} {n = p} m l
 
@@ -130,6 +135,15 @@ module _ {A : Type 0} (p a : ℕ) where
       ∙ (under_append p a (trees_in_slots p ss f (i - f)) (trees_in_slot p (slice_get ss i))
       ∙ (ap (λ ts. ts ++ trees_under p a (trees_in_slot p (slice_get ss i))) none
       ∙ (ap (λ o. trees_under p a (trees_in_slot p o)) (slice_get_read ss (length ss) i s refl within is) ∙ under_slot s e)))
+
+-- a slot that is read and is free
+module _ {A : Type 0} where
+  free_slot_at : (ss : List (Slot A)) (i : ℕ) (s : Slot A) → slice_get ss i ≡ Some s → is_slot_free s ≡ true → slice_get ss i ≡ Some Free
+  free_slot_at ss i Free at e = at
+  free_slot_at ss i (Held b t) at e = absurd cc
+
+  pub free_at : (ss : List (Slot A)) (i : ℕ) (s : Slot A) → i < length ss → s ≡ get_or ss i s → is_slot_free s ≡ true → slice_get ss i ≡ Some Free
+  free_at ss i s within is e = free_slot_at ss i s (slice_get_read ss (length ss) i s refl within is) e
 
 -- ---- how many trees there are
 module _ {A : Type 0} (p : ℕ) where

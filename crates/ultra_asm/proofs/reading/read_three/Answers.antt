@@ -1,8 +1,9 @@
 -- the operands are read in order, up to the first that is wrong
-use Rattle.std.proofs.Common.{◌≡◌, ◌∙◌, ℕ, ◌<◌, ◌≤◌, List, length, get_or, sym, ap, ap₂, arith, rules}
+use Rattle.std.proofs.Common.{◌≡◌, ◌∙◌, ℕ, ◌<◌, ◌≤◌, List, length, get_or, sym, ap, ap₂, arith}
 use Rattle.std.specs.Prelude.{Result, Ok, Err}
 use Rattle.ultra_asm.specs.declared.AsmFaultKind.{AsmFaultKind}
 use Rattle.ultra_asm.specs.Reading.{three_in, all_three_operands}
+use Rattle.ultra_asm.proofs.Refused.{passed_on}
 use Rattle.ultra_asm.proofs.Counted.{three_are}
 use Rattle.ultra_asm.proofs.Turns.{Lent, texts}
 use Rattle.ultra_asm.proofs.reading.read_three.Goals as goal
@@ -19,17 +20,17 @@ module _ {A B C : Type 0} (f : List ℕ → Result A AsmFaultKind) (g : List ℕ
 
 pub returns-in_err-read-in-len3 : goal.returns-in_err-read-in-len3
 returns-in_err-read-in-len3 g c =
-    let gives : c.from_residual.result ≡ Err c.in_err-read-in-len3.field-0.0 = search rules in
+    let gives = passed_on c.from_residual.result c.in_err-read-in-len3.field-0.0 c.from_residual.ensures in
     gives ∙ first_wrong _ _ _ c.args.operands.now _ _ (omega arith) (omega arith) _ c.read.ensures c.in_err-read-in-len3.was
 
 pub returns-in_err-read-in-len3-2 : goal.returns-in_err-read-in-len3-2
 returns-in_err-read-in-len3-2 g c =
-    let gives : c.from_residual-in_err-read-in-len3-2.result ≡ Err c.in_err-read-in-len3-2.field-0.0 = search rules in
+    let gives = passed_on c.from_residual-in_err-read-in-len3-2.result c.in_err-read-in-len3-2.field-0.0 c.from_residual-in_err-read-in-len3-2.ensures in
     gives ∙ second_wrong _ _ _ c.args.operands.now _ _ _ _ (omega arith) (omega arith) _ c.read.ensures c.in_ok-read-in-len3.was _ c.read-in-len3.ensures c.in_err-read-in-len3-2.was
 
 pub returns-in_err-read-in-len3-3 : goal.returns-in_err-read-in-len3-3
 returns-in_err-read-in-len3-3 g c =
-    let gives : c.from_residual-in_err-read-in-len3-3.result ≡ Err c.in_err-read-in-len3-3.field-0.0 = search rules in
+    let gives = passed_on c.from_residual-in_err-read-in-len3-3.result c.in_err-read-in-len3-3.field-0.0 c.from_residual-in_err-read-in-len3-3.ensures in
     gives ∙ all_read _ _ _ c.args.operands.now _ _ _ _ _ _ (omega arith) (omega arith) _ c.read.ensures c.in_ok-read-in-len3.was _ c.read-in-len3.ensures c.in_ok-read-in-len3-2.was _ c.read-in-len3-2.ensures c.in_err-read-in-len3-3.was
 
 pub returns-in_ok-read-in-len3-3 : goal.returns-in_ok-read-in-len3-3

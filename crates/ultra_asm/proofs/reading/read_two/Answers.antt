@@ -1,8 +1,9 @@
 -- the operands are read in order, up to the first that is wrong
-use Rattle.std.proofs.Common.{◌≡◌, ◌∙◌, ℕ, ◌<◌, ◌≤◌, List, length, get_or, sym, ap, ap₂, arith, rules}
+use Rattle.std.proofs.Common.{◌≡◌, ◌∙◌, ℕ, ◌<◌, ◌≤◌, List, length, get_or, sym, ap, ap₂, arith}
 use Rattle.std.specs.Prelude.{Result, Err}
 use Rattle.ultra_asm.specs.declared.AsmFaultKind.{AsmFaultKind}
 use Rattle.ultra_asm.specs.Reading.{both_operands, two_in}
+use Rattle.ultra_asm.proofs.Refused.{passed_on}
 use Rattle.ultra_asm.proofs.Counted.{two_are}
 use Rattle.ultra_asm.proofs.Turns.{Lent, texts}
 use Rattle.ultra_asm.proofs.reading.read_two.Goals as goal
@@ -16,12 +17,12 @@ module _ {A B : Type 0} (f : List ℕ → Result A AsmFaultKind) (g : List ℕ �
 
 pub returns-in_err-read-in-len2 : goal.returns-in_err-read-in-len2
 returns-in_err-read-in-len2 g c =
-    let gives : c.from_residual.result ≡ Err c.in_err-read-in-len2.field-0.0 = search rules in
+    let gives = passed_on c.from_residual.result c.in_err-read-in-len2.field-0.0 c.from_residual.ensures in
     gives ∙ first_wrong _ _ c.args.operands.now _ _ (omega arith) (omega arith) _ c.read.ensures c.in_err-read-in-len2.was
 
 pub returns-in_err-read-in-len2-2 : goal.returns-in_err-read-in-len2-2
 returns-in_err-read-in-len2-2 g c =
-    let gives : c.from_residual-in_err-read-in-len2-2.result ≡ Err c.in_err-read-in-len2-2.field-0.0 = search rules in
+    let gives = passed_on c.from_residual-in_err-read-in-len2-2.result c.in_err-read-in-len2-2.field-0.0 c.from_residual-in_err-read-in-len2-2.ensures in
     gives ∙ both_read _ _ c.args.operands.now _ _ _ _ (omega arith) (omega arith) _ c.read.ensures c.in_ok-read-in-len2.was _ c.read-in-len2.ensures c.in_err-read-in-len2-2.was
 
 pub returns-in_ok-read-in-len2-2 : goal.returns-in_ok-read-in-len2-2

@@ -1,7 +1,12 @@
 use Rattle.std.proofs.Common.{◌∙◌, sym, inl, inr, refl, get_or, false, arith, pos}
-use Rattle.std.proofs.lemmas.List.{take_more, get_or_read}
-use Rattle.ultra_model.proofs.InitialCells.{refused_at, marked_more, named_again, AllPairs-different}
+use Rattle.std.proofs.lemmas.List.{length-replicate, take_more, take_all, get_or_read, get_or-replicate}
+use Rattle.ultra_model.proofs.InitialCells.{IsMarked, refused_at, marked_none, marked_more, named_again, AllPairs-different, all_accepted}
 use Rattle.ultra_model.proofs.config.initial_within.Goals as goal
+
+pub loop-pair-init : goal.loop-pair-init
+loop-pair-init c =
+    rw (c.in_ok-is_given.ensures.items_if_clones_equal, c.new-initial.ensures.items)
+    (marked_none c.args.all_cells _ (length-replicate c.args.all_cells false) (λ k h. get_or-replicate c.args.all_cells k false false h))
 
 -- a pair that isn't a cell
 pub returns-in_default-clause-refused : goal.returns-in_default-clause-refused
@@ -28,3 +33,12 @@ loop-pair-preserved c =
 
 pub returns-clause-different : goal.returns-clause-different
 returns-clause-different c = AllPairs-different c.loop-pair.initial'.items c.loop-pair.invariant.different
+
+all_marked : (c : goal.After-drop-is_given-2) → IsMarked c.args.all_cells c.args.given.now c.loop-pair.is_given.items c.loop-pair.initial'.items
+all_marked c = rw (take_all c.loop-pair.pair-index c.args.given.now c.loop-pair-test.false) at c.loop-pair.invariant
+
+pub returns-clause-accepted : goal.returns-clause-accepted
+returns-clause-accepted c = all_accepted _ _ _ _ (all_marked c)
+
+pub returns-clause-value : goal.returns-clause-value
+returns-clause-value c = (all_marked c).value

@@ -1,7 +1,7 @@
-use Rattle.std.proofs.lemmas.Grind.{common_steps}
 use Rattle.std.proofs.Common.{arith, take, get_or, subst, sym, ◌∙◌, ap}
-use Rattle.std.proofs.lemmas.List.{take_more}
+use Rattle.std.proofs.lemmas.List.{take_all, take_more}
 use Rattle.std.proofs.lemmas.Option.{slice_get-get_or}
+use Rattle.std.proofs.lemmas.Result.{IfOk-from_err}
 use Rattle.ultra_serial.specs.ByPair.{is_pair, with_item}
 use Rattle.ultra_serial.specs.ByName.{list_named}
 use Rattle.ultra_serial_law.specs.declared.records.LoggedIssue.{LoggedIssue}
@@ -23,13 +23,16 @@ loop-index-preserved c =
     (more_by_name (λ (i : LoggedIssue). i.pe) (λ (i : LoggedIssue). i.number) (list_named c.loop-index.named xs) (take n xs) c.loop-index.invariant (list_named c.push.new.self xs) x (λ p q. c.in_ok-push.ensures x at p q ∙ ap (λ us. with_item (is_pair x.pe x.number p q) us x) (c.in_ok-make_place.ensures xs p q)))
 
 pub returns-in_err-named : goal.returns-in_err-named
-returns-in_err-named c = grind (arith, common_steps)
+returns-in_err-named c = IfOk-from_err c.from_residual.result _ c.from_residual.ensures.0
 
 pub returns-in_err-make_place : goal.returns-in_err-make_place
-returns-in_err-make_place c = grind (arith, common_steps)
+returns-in_err-make_place c =
+    IfOk-from_err c.from_residual-in_err-make_place.result _ c.from_residual-in_err-make_place.ensures.0
 
 pub returns-in_err-push : goal.returns-in_err-push
-returns-in_err-push c = grind (arith, common_steps)
+returns-in_err-push c = IfOk-from_err c.from_residual-in_err-push.result _ c.from_residual-in_err-push.ensures.0
 
 pub returns : goal.returns
-returns c = grind (arith, common_steps)
+returns c =
+    let xs = c.args.issues.now in
+    subst (λ us. AreIssuesByName (list_named c.loop-index.named xs) us) (take_all c.loop-index.index xs (omega arith)) c.loop-index.invariant

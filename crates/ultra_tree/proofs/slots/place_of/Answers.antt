@@ -1,7 +1,7 @@
 use Rattle.std.proofs.lemmas.Grind.{common_steps}
 use Rattle.std.proofs.Common.{◌*◌, ◌≤◌, length, ap, sym, ◌∙◌, arith}
 use Rattle.ultra_tree.specs.Slots.{trees_under}
-use Rattle.ultra_tree.proofs.Rows.{slots_past, row_past, row_within, first_for, still_none}
+use Rattle.ultra_tree.proofs.Rows.{slots_past, row_past, row_within, row_fits, first_for, still_none}
 use Rattle.ultra_tree.proofs.slots.place_of.Goals as goal
 
 pub returns-then-pe-elements-clause-none : goal.returns-then-pe-elements-clause-none
@@ -35,3 +35,24 @@ returns-clause-found g c = grind (arith, common_steps)
 
 pub returns-clause-none : goal.returns-clause-none
 returns-clause-none g c = grind (arith, common_steps)
+
+pub overflow_mul-first : goal.overflow_mul-first
+overflow_mul-first g c =
+    omega (arith, row_fits c.args.pe c.args.most_open c.ranges.pe.fits c.ranges.most_open.fits)
+
+pub overflow_add-place-end : goal.overflow_add-place-end
+overflow_add-place-end g c =
+    omega (arith, row_fits c.args.pe c.args.most_open c.ranges.pe.fits c.ranges.most_open.fits)
+
+pub offset_bounds-slots-place : goal.offset_bounds-slots-place
+offset_bounds-slots-place g c =
+    let within = row_within c.args.elements c.args.most_open c.args.pe c.if-pe-elements.false in
+    omega (arith, within, c.requires, c.loop-place-test.true)
+
+pub bounds-slots-place : goal.bounds-slots-place
+bounds-slots-place g c =
+    let within = row_within c.args.elements c.args.most_open c.args.pe c.if-pe-elements.false in
+    omega (arith, within, c.requires, c.loop-place-test.true)
+
+pub loop-place-smaller : goal.loop-place-smaller
+loop-place-smaller g c = omega (arith, c.loop-place-test.true)
