@@ -23,8 +23,7 @@ module _ (d : ℕ) {S B E F : Type 0} (fs : Option S → F) (fb : Option B → F
     element_anew p o own within is k = grind (arith, unit_is, unit_of_element, get_or-set_same, get_or-set_other)
 
 -- block `a` has these units, and these of them are awake. Its network, its wiring and its program
--- are those of `b`, and its links are of as many stages. It has memory for at least as many events
--- and stops
+-- are those of `b`, and its links are of as many stages. It has memory for as many events and stops
 pub record IsAfter (b : Block) (ws : List (Option Switch)) (bs : List (Option ModuleState)) (es : List (Option ProcessingElement)) (woken : List ℕ) (a : Block) : Type 0 where
   pub network : a.net ≡ b.net
   pub wiring : a.wiring ≡ b.wiring
@@ -35,8 +34,8 @@ pub record IsAfter (b : Block) (ws : List (Option Switch)) (bs : List (Option Mo
   pub awake : a.awake ≡ woken
   pub replies : a.replies.stages ≡ b.replies.stages
   pub requests : a.requests.stages ≡ b.requests.stages
-  pub events : vec_capacity b.events ≤ vec_capacity a.events
-  pub stops : vec_capacity b.stops ≤ vec_capacity a.stops
+  pub events : vec_capacity a.events ≡ vec_capacity b.events
+  pub stops : vec_capacity a.stops ≡ vec_capacity b.stops
 
 -- where nothing is noted anew
 pub same_facts : (s : Sets) (n : ℕ) → AreNoted n (λ f. f) s s

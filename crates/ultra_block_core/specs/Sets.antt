@@ -1,5 +1,5 @@
 -- what a block knows of its units
-use Rattle.std.specs.Prelude.{◌≡◌, ◌≢◌, ℕ, ◌^◌, ◌≤◌, Bool, false, not, ◌&&◌, ◌||◌, length, Option, Some, None, is_some, vec_capacity}
+use Rattle.std.specs.Prelude.{◌≡◌, ◌≢◌, ℕ, ◌^◌, Bool, false, not, ◌&&◌, ◌||◌, length, Option, Some, None, is_some, vec_capacity}
 use Rattle.ultra_block_core.specs.Prelude.{Switch, ModuleState, has_unit, has_reply_room, has_request_room, holds_replies, holds_requests, keeps_records, holds_request, ProcessingElement, switch_count, of_unit}
 use Rattle.ultra_block_core.specs.{declared.sets.Sets.Sets, declared.block.Block.TheInside.Inside as Block, BlockState.AreOthersAtRest, BlockState.BlockState, BlockState.own_switch, BlockState.own_module, BlockState.own_element, BlockState.most_events, BlockState.most_stops, Quiet.is_running}
 
@@ -134,7 +134,7 @@ seen_of b = record {
 
 -- the wiring and the links are those of the network, there is an entry for each unit, and the sets
 -- say what is true of it. Processing elements that aren't awake are at rest. There is memory for
--- what happens in a cycle
+-- what happens in a cycle, and for no more: a list that asked for memory would have more places
 pub record IsConsistentBlock (b : Block) : Type 0 where
   pub network : b.wiring ≡ b.net
   pub switches : length b.switches.items ≡ switch_count b.net
@@ -150,5 +150,5 @@ pub record IsConsistentBlock (b : Block) : Type 0 where
   pub rests : AreOthersAtRest b.net b.program b.awake b.elements.items
   pub replies : b.replies.stages ≡ b.net
   pub requests : b.requests.stages ≡ b.net
-  pub events_fit : most_events ≤ vec_capacity b.events
-  pub stops_fit : most_stops ≤ vec_capacity b.stops
+  pub event_places : vec_capacity b.events ≡ most_events
+  pub stop_places : vec_capacity b.stops ≡ most_stops

@@ -42,7 +42,7 @@ fn take_into_switch(
         (on_link links.old.table in_turn.0) (on_link links.old.table in_turn.1) }
     ensures events { events.new.items ≡ events.old.items ++ combinations_of_both net stage index
         switch.old (on_link links.old.table in_turn.0) (on_link links.old.table in_turn.1) }
-    ensures places { vec_capacity events.old ≤ vec_capacity events.new }
+    ensures places { vec_capacity events.new ≡ vec_capacity events.old }
     ensures few { length events.new.items ≤ length events.old.items + 2 }
     ensures none { (result ≡ false) ↔ (combinations_of_both net stage index switch.old
         (on_link links.old.table in_turn.0) (on_link links.old.table in_turn.1) ≡ []) }

@@ -5,7 +5,7 @@
 //! message goes on, and in which order, is this project's profile.
 #![tactic(auto)]
 
-ghost use Rattle.std.specs.Prelude.{◌≡◌, ◌<◌, ◌≤◌, ◌++◌, ◌∷◌, [], length, vec_capacity};
+ghost use Rattle.std.specs.Prelude.{◌≡◌, ◌<◌, ◌++◌, ◌∷◌, [], length, vec_capacity};
 
 mod elements;
 pub mod modules;
@@ -15,12 +15,12 @@ pub mod switches;
 
 pub use elements::{ProcessingElement, StepOutcome};
 
-/// Adds an entry at the end of a list that has memory for it.
+/// Adds an entry at the end of a list that has memory for it. The list asks for none.
 #[inline(always)]
-pub fn append<T: Drop>(list: &mut Vec<T>, entry: T)
+pub fn append<T>(list: &mut Vec<T>, entry: T)
     requires { length list.old.items < vec_capacity list.old }
     ensures entries { list.new.items ≡ list.old.items ++ entry ∷ [] }
-    ensures places { vec_capacity list.old ≤ vec_capacity list.new }
+    ensures places { vec_capacity list.new ≡ vec_capacity list.old }
 {
-    let _pushed = list.push(entry);
+    list.push_reserved(entry);
 }

@@ -34,7 +34,7 @@ fn append_combination(
     requires { length events.old.items < vec_capacity events.old }
     ensures entries { events.new.items ≡ events.old.items ++ Combined stage position
         request.now.cell old request.now.pe (not (is_fixed wait_record.now.give_old)) ∷ [] }
-    ensures places { vec_capacity events.old ≤ vec_capacity events.new }
+    ensures places { vec_capacity events.new ≡ vec_capacity events.old }
 {
     let event = Event::Combined {
         stage,
@@ -64,7 +64,7 @@ fn arrive(
     ensures longer { length to_mm.new.lane.queue ≤ length to_mm.old.lane.queue + 1 }
     ensures events { events.new.items ≡
         events.old.items ++ present (combination_in stage position to_mm.old request.now ∷ []) }
-    ensures places { vec_capacity events.old ≤ vec_capacity events.new }
+    ensures places { vec_capacity events.new ≡ vec_capacity events.old }
     ensures combined { result ≡ is_some (combination_in stage position to_mm.old request.now) }
 {
     match to_mm.arrive_packet(request) {
@@ -102,7 +102,7 @@ pub fn take_request(
     ensures longer_one { length to_mm.new.one.lane.queue ≤ length to_mm.old.one.lane.queue + 1 }
     ensures events { events.new.items ≡
         events.old.items ++ present (combination_by net stage index to_mm.old request.now ∷ []) }
-    ensures places { vec_capacity events.old ≤ vec_capacity events.new }
+    ensures places { vec_capacity events.new ≡ vec_capacity events.old }
     ensures few { length events.new.items ≤ length events.old.items + 1 }
     ensures combined { result ≡ is_some (combination_by net stage index to_mm.old request.now) }
 {
@@ -125,7 +125,7 @@ pub fn put_in_order(events: &mut Vec<Event>, are_ports_reversed: bool)
     requires { 2 ≤ length events.old.items }
     ensures entries { (front : List Event) (a b : Event) → events.old.items ≡ front ++ a ∷ b ∷ [] →
         events.new.items ≡ front ++ in_order are_ports_reversed a b }
-    ensures places { vec_capacity events.old ≤ vec_capacity events.new }
+    ensures places { vec_capacity events.new ≡ vec_capacity events.old }
     ensures few { length events.new.items ≡ length events.old.items }
 {
     if are_ports_reversed {
