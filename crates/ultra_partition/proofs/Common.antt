@@ -11,7 +11,7 @@ pub use Rattle.ultra_partition.specs.Merging.{of_rank}
 pub use Rattle.ultra_model.proofs.{Each.each-append, Each.length-places, Each.places_at, Neighbours.itself, Neighbours.other, Routes.delivered_well}
 pub use Rattle.ultra_model.specs.{Machine.Element, Machine.module_at, Machine.element_at, Machine.is_empty, Machine.is_quiet, Machine.lane_at, Machine.replies_at, Machine.size, Phases.combinations, Phases.delivery, Phases.issue_event, Phases.memory_phase, Phases.processor_phase, Phases.reply_phase, Phases.request_phase, Phases.serving, Phases.stop_of, Phases.without_reply, Places.joined, Places.present}
 pub use Rattle.ultra_route.proofs.Table.{all_below_at, sizes}
-pub use Rattle.ultra_block_core.proofs.{UnitUpdates.UnitUpdate, UnitUpdates.UnitUpdates, UnitUpdates.AllUpdated, UnitUpdates.AreFair, UnitUpdates.Seen, UnitUpdates.update, UnitUpdates.after_update, UnitUpdates.all_updated, UnitUpdates.end_puts, UnitUpdates.event_entries, UnitUpdates.list_of, UnitUpdates.on_links_after, UnitUpdates.on_one, UnitUpdates.on_two, UnitUpdates.stop_entries, UnitUpdates.switch_puts, Few.two_combine, Holding.at_switch, Marks.emptied, Marks.emptied_first, Marks.length-put_on, OfKind.by_kind, OfKind.element_stands, OfKind.module_stands, OfKind.switch_stands, OfKind.unit_of_none, Once.same_visits, OwnProgram.made_by_own, Put.has_places, Put.places_of, Put.places_twice, Put.put_apart, Put.put_or, Put.put_there, Readers.AreRead, Readers.are_read, Readers.each_network, Readers.replies_read, Readers.replies_to_switch, Readers.reply_reader, Readers.reply_to_element, Readers.request_reader, Readers.request_to_module, Readers.requests_read, Readers.requests_to_switch, Standing.is_switch, Standing.unit_is, Standing.unit_of_element, Standing.unit_of_module, Standing.unit_of_switch, Visited.same_entry}
+pub use Rattle.ultra_block_core.proofs.{UnitUpdates.UnitUpdate, UnitUpdates.UnitUpdates, UnitUpdates.AllUpdated, UnitUpdates.AreFair, UnitUpdates.Seen, UnitUpdates.update, UnitUpdates.after_update, UnitUpdates.all_updated, UnitUpdates.end_puts, UnitUpdates.event_entries, UnitUpdates.list_of, UnitUpdates.on_links_after, UnitUpdates.on_one, UnitUpdates.on_two, UnitUpdates.stop_entries, UnitUpdates.switch_puts, Few.two_combine, Holding.at_switch, Marks.emptied, Marks.emptied_first, Marks.length-put_on, OfKind.by_kind, OfKind.element_stands, OfKind.module_stands, OfKind.switch_stands, OfKind.unit_of_none, Once.same_visits, OwnProgram.made_by_own, Put.has_places, Put.places_of, Put.places_twice, Put.put_apart, Put.put_or, Put.put_there, Readers.AreRead, Readers.are_read, Readers.each_network, Readers.is_among, Readers.leads_there, Readers.replies_read, Readers.replies_to_switch, Readers.reply_reader, Readers.reply_to_element, Readers.request_reader, Readers.request_to_module, Readers.requests_read, Readers.requests_to_switch, Standing.is_switch, Standing.unit_is, Standing.unit_of_element, Standing.unit_of_module, Standing.unit_of_switch, Visited.same_entry}
 pub use Rattle.ultra_block_core.specs.{Away.AllStayWithin, Away.AreEmpty, Away.reply_inlets, Away.request_inlets, Away.is_in_block, BlockState.own_module, BlockState.own_switch, Execution.counted, Execution.executes, Holding.element_holds, Holding.holds_at, Holding.module_holds, Holding.switch_holds, Making.after_half, Making.after_own_half, Marks.delivery_link, Marks.memory_link, Marks.on_both, Marks.on_link, Marks.reply_links, Marks.request_links, Quiet.or_elsewhere, Quiet.quiet_block, RepliesSent.without_events, RepliesSent.has_way_from_module, RepliesSent.reply_ways, RepliesSent.sends_replies, RepliesTaken.UnitCanTakeReplies, RepliesTaken.takes_replies, RequestsSent.has_way_from_element, RequestsSent.request_ways, RequestsSent.sends_requests, RequestsTaken.UnitCanTakeRequests, RequestsTaken.takes_requests, Rooms.AreOwnRooms, Rooms.HasNoted, Rooms.all_open, Serving.serves, Sets.if_here, Shape.IsShaped, Units.IsUnit, Units.index_of, Units.stage_of, declared.held.Held.Held, declared.rooms.Rooms.Rooms}
 pub use Rattle.ultra_switch.specs.Arrive.{Lane, arrive}
 pub use Rattle.ultra_topology.proofs.Set.{none_there}

@@ -1,8 +1,7 @@
--- Messages on links: to which unit each link leads, computed over every network of at most six stages, and what is true of
--- messages of each kind. Where each message is in the block to which it leads, what comes to a unit is what its block has
+-- Messages on links: to which unit each link leads, and what is true of messages of each kind. Where each message is in the block to which it leads, what comes to a unit is what its block has
 -- for it. Messages that lead from one block to a unit in another go there, and nothing else changes.
-use Rattle.std.proofs.Common.{◌≡◌, ◌≢◌, ℕ, ◌+◌, ◌-◌, ◌*◌, ◌^◌, ◌<◌, ◌≤◌, Bool, true, false, List, Option, Some, None, length, refl, sym, ap, subst, arith, map, ◌∙◌, get_or-set_same, get_or-set_other, ◌&&◌, ◌||◌, ◌==◌, nat_lt, ◌⊎◌, get_or}
-use Rattle.ultra_partition.proofs.Common.{nat_tests, get_or_default, get_or_past, length-set, switch_count, unit_count, module_number, element_number, ports, stage_of, index_of, delivery_link, memory_link, reply_links, request_links, on_both, on_link, AllStayWithin, AreEmpty, reply_inlets, request_inlets, IsShaped, AreRead, are_read, each_network, replies_read, reply_reader, request_reader, requests_read, unit_is, put_apart, put_or, put_there, AreAlike, Frame, Ports, IsCut, block_at, no_block, first, home, frame_of, BlockState, AreThere, MessageOf, inlets, message_on, on_each, link_table, with_link_table, AreSingle, HasNoneFor, OnlyMove, carried, MessageKind, Replies, Requests, AreBlocks, other, all_below, all_below_at, emptied, emptied_first, length-put_on}
+use Rattle.std.proofs.Common.{◌≡◌, ◌≢◌, ℕ, ◌+◌, ◌-◌, ◌*◌, ◌^◌, ◌<◌, ◌≤◌, true, false, List, Option, Some, None, length, refl, sym, ap, subst, arith, map, ◌∙◌, get_or-set_same, get_or-set_other, ◌⊎◌, get_or}
+use Rattle.ultra_partition.proofs.Common.{nat_tests, get_or_default, get_or_past, length-set, switch_count, unit_count, module_number, element_number, ports, stage_of, index_of, delivery_link, memory_link, reply_links, request_links, on_both, on_link, AllStayWithin, AreEmpty, reply_inlets, request_inlets, IsShaped, AreRead, are_read, is_among, leads_there, replies_read, reply_reader, request_reader, requests_read, unit_is, put_apart, put_or, put_there, AreAlike, Frame, Ports, IsCut, block_at, no_block, first, home, frame_of, BlockState, AreThere, MessageOf, inlets, message_on, on_each, link_table, with_link_table, AreSingle, HasNoneFor, OnlyMove, carried, MessageKind, Replies, Requests, AreBlocks, other, emptied, emptied_first, length-put_on}
 use Rattle.ultra_partition.proofs.{Columns.column_first, Columns.same_entries}
 
 -- ---- a block with something else on its links
@@ -46,21 +45,10 @@ pub lead_here : (kind : MessageKind) (d : ℕ) → 1 ≤ d → d ≤ 6 → (n : 
 lead_here Replies = are_read reply_inlets reply_reader replies_read
 lead_here Requests = are_read request_inlets request_reader requests_read
 
--- link l is one of these
-abbrev is_among : ℕ → Option (Ports ℕ) → Bool
-is_among l None = false
-is_among l (Some p) = (l == p.zero) || (l == p.one)
-
-abbrev leads : MessageKind → ℕ → ℕ → Bool
-leads kind d l = nat_lt (reader kind d l) (unit_count d) && is_among l (inlets kind d (reader kind d l))
-
-all_lead : (kind : MessageKind) → all_below (λ k. all_below (leads kind (k + 1)) ((k + 1 + 1) * 2 ^ (k + 1))) 6 ≡ true
-unfolding all_below
-all_lead Replies = refl
-all_lead Requests = refl
-
+-- each link leads to a unit
 pub leads_to : (kind : MessageKind) (d : ℕ) → 1 ≤ d → d ≤ 6 → (l : ℕ) → l < (d + 1) * 2 ^ d → record { small : reader kind d l < unit_count d; among : is_among l (inlets kind d (reader kind d l)) ≡ true }
-leads_to kind d low high l h = grind (arith, nat_tests, all_below_at (leads kind d) _ (each_network (λ d. all_below (leads kind d) ((d + 1) * 2 ^ d)) (all_lead kind) d low high) l h)
+leads_to Replies = leads_there reply_inlets reply_reader replies_read
+leads_to Requests = leads_there request_inlets request_reader requests_read
 
 -- where nothing is on the inlets of a unit, nothing is on this one
 pub none_among : {M : Type 0} (t : List (Option M)) (l : ℕ) (o : Option (Ports ℕ)) → is_among l o ≡ true → AreEmpty t o → on_link t l ≡ None

@@ -1,6 +1,6 @@
 -- What is on links once something has been put on one, or taken, and the units to which messages lead then.
 use Rattle.std.proofs.Common.{◌≡◌, ◌≢◌, ℕ, Bool, List, true, Option, Some, None, length, replicate, set, get_or, arith, get_or-set_same, get_or-set_other, ◌⊎◌}
-use Rattle.ultra_topology.proofs.Common.{length-set, length-replicate, get_or-replicate, get_or_past, set_comm, Ports, has_unit, put_on, AreSameBut, AreTargets, LeadsTo, on_link, ports_in_turn, without_both}
+use Rattle.ultra_topology.proofs.Common.{length-set, length-replicate, get_or-replicate, get_or_past, set_comm, Ports, has_unit, put_on, AreSameBut, AreTargets, LeadsToNoOther, on_link, ports_in_turn, without_both}
 
 pub length-put_on : {M : Type 0} (t : List (Option M)) (link : ℕ) (o : Option M) → length (put_on t link o) ≡ length t
 length-put_on t link o = grind (arith, length-set)
@@ -31,6 +31,6 @@ pub no_entry : {X : Type 0} (xs : List (Option X)) (m n : ℕ) → xs ≡ replic
 no_entry xs m n is = grind (arith, get_or-replicate, get_or_past, length-replicate)
 
 -- ---- the units to which messages lead once one more is put on a link
-pub one_more : (inlets : ℕ → Option (Ports ℕ)) (d : ℕ) {M : Type 0} (t : List (Option M)) (targets now : List ℕ) (link unit : ℕ) (m : M) → AreTargets inlets d t targets → LeadsTo inlets d link unit
+pub one_more : (inlets : ℕ → Option (Ports ℕ)) (d : ℕ) {M : Type 0} (t : List (Option M)) (targets now : List ℕ) (link unit : ℕ) (m : M) → AreTargets inlets d t targets → LeadsToNoOther inlets d link unit
     → AreSameBut unit targets now → has_unit now unit ≡ true → AreTargets inlets d (set t link (Some m)) now
 one_more inlets d t targets now link unit m are lead others there = grind (arith, length-set, get_or-set_other)

@@ -1,6 +1,6 @@
 -- by which links messages come to the unit with a number, and what goes from one table of links to
 -- another
-use Rattle.std.specs.Prelude.{◌≡◌, ◌≢◌, ℕ, ◌+◌, ◌*◌, ◌^◌, ◌<◌, ◌⊎◌, false, length, List, Option, Some, None, slice_set}
+use Rattle.std.specs.Prelude.{◌≡◌, ◌≢◌, ℕ, ◌+◌, ◌*◌, ◌^◌, ◌<◌, ◌⊎◌, false, length, List, Option, Some, None, IsSomeAnd, slice_set}
 use Rattle.ultra_switch.specs.declared.Ports.{Ports}
 use Rattle.ultra_topology.specs.{Numbers.IsSmall, Numbers.switch_count, Set.has_unit, Units.index_of, Units.stage_of, Units.of_unit, Links.put_on, Ways.places_of, Marks.on_link, Marks.reply_links, Marks.delivery_link, Marks.request_links, Marks.memory_link}
 use Rattle.ultra_topology.specs.declared.TheConstants.{MOST_UNITS}
@@ -36,6 +36,14 @@ abbrev pub AreEmpty : {M : Type 0} → List (Option M) → Option (Ports ℕ) �
 AreEmpty table None = Unit {0}
 AreEmpty table (Some p) = (on_link table p.zero ≡ None) × (on_link table p.one ≡ None)
 
+-- a link is one of two
+abbrev pub IsEither : ℕ → Ports ℕ → Type 0
+IsEither link p = (link ≡ p.zero) ⊎ (link ≡ p.one)
+
+-- one of the links by which messages come to a unit; `inlets` are those of the unit with a number
+unfoldable pub IsInletOf : (ℕ → Option (Ports ℕ)) → ℕ → ℕ → Type 0
+IsInletOf inlets unit link = IsSomeAnd (inlets unit) (IsEither link)
+
 -- ---- the links of a machine of d stages: one for each position of a stage, and one for each
 -- module or processing element
 abbrev pub link_count : ℕ → ℕ
@@ -43,17 +51,21 @@ link_count d = (d + 1) * 2 ^ d
 
 -- `inlets` are those of the unit with a number
 module _ (inlets : ℕ → Option (Ports ℕ)) (d : ℕ) where
+  -- a link that leads to no unit but this one
+  pub record LeadsToNoOther (link unit : ℕ) : Type 0 where
+    pub small : link < link_count d
+    pub alone : (n : ℕ) (p : Ports ℕ) → inlets n ≡ Some p → IsEither link p → n ≡ unit
+
   -- a link to the unit, and to no other
   pub record LeadsTo (link unit : ℕ) : Type 0 where
-    pub small : link < link_count d
-    pub alone :
-        (n : ℕ) (p : Ports ℕ) → inlets n ≡ Some p → (link ≡ p.zero) ⊎ (link ≡ p.one) → n ≡ unit
+    pub there : IsInletOf inlets unit link
+    pub no_other : LeadsToNoOther link unit
 
   -- the links by which messages come to it; those of a switch are two
   pub record AreInlets (unit : ℕ) (p : Ports ℕ) : Type 0 where
     pub are : inlets unit ≡ Some p
-    pub zero : LeadsTo p.zero unit
-    pub one : LeadsTo p.one unit
+    pub zero : LeadsToNoOther p.zero unit
+    pub one : LeadsToNoOther p.one unit
     pub apart : unit < switch_count d → p.zero ≢ p.one
 
   -- the two links by which messages leave the switch with number n lead to these units

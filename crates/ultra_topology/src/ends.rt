@@ -2,7 +2,7 @@
 //! to them.
 
 ghost use Rattle.std.specs.Prelude.{◌≡◌, ◌^◌, ◌<◌, None, slice_set};
-ghost use Rattle.ultra_topology.specs.{Inlets.LeadsTo, Numbers.link_number as number_of_link, Links.put_on, Marks.delivery_link, Marks.memory_link, Marks.on_link, Units.IsElement, Units.IsModule};
+ghost use Rattle.ultra_topology.specs.{Inlets.LeadsToNoOther, Numbers.link_number as number_of_link, Links.put_on, Marks.delivery_link, Marks.memory_link, Marks.on_link, Units.IsElement, Units.IsModule};
 
 use crate::links::{Links, Message};
 use crate::numbers::link_number;
@@ -21,7 +21,7 @@ pub fn send_from_end<M: Message>(
     message: Option<M>,
 )
     requires number { number < 2 ^ net }
-    requires leads { LeadsTo (M.inlets net) net (number_of_link net net number) target }
+    requires leads { LeadsToNoOther (M.inlets net) net (number_of_link net net number) target }
     requires stages { links.old.stages ≡ net }
     ensures { links.new ≡ record links.old {
       table = put_on links.old.table

@@ -2,7 +2,7 @@
 
 ghost use Rattle.std.specs.Prelude.{◌≡◌, ℕ, ◌<◌, true, false, Option, IfOk, None, is_some, length, replicate, slice_set};
 ghost use Rattle.ultra_switch.specs.declared.Ports.{Ports};
-ghost use Rattle.ultra_topology.specs.{Inlets.AreEmpty, Inlets.AreInlets, Inlets.AreTargets, Inlets.LeadsTo, Inlets.link_count, Inlets.put_on_both, Inlets.reply_inlets, Inlets.request_inlets, Inlets.taken_by_turns, Links.LinksState, Links.put_on, Set.AreSameBut, Set.HasNoneFrom, Set.has_unit, Marks.on_link, Marks.ports_in_turn, Marks.without_both};
+ghost use Rattle.ultra_topology.specs.{Inlets.AreEmpty, Inlets.AreInlets, Inlets.AreTargets, Inlets.LeadsToNoOther, Inlets.link_count, Inlets.put_on_both, Inlets.reply_inlets, Inlets.request_inlets, Inlets.taken_by_turns, Links.LinksState, Links.put_on, Set.AreSameBut, Set.HasNoneFrom, Set.has_unit, Marks.on_link, Marks.ports_in_turn, Marks.without_both};
 ghost use Rattle.ultra_topology.specs.declared.TheConstants.{MOST_UNITS};
 
 use crate::unit_set::{UnitNumber, UnitSet};
@@ -88,10 +88,10 @@ impl<M: Message> Links<M> {
         &self.targets
     }
 
-    /// Puts a message, if there is one, on a link, which leads to the unit `target`.
+    /// Puts a message, if there is one, on a link, which leads to no unit but `target`.
     #[inline(always)]
     pub fn put(&mut self, link: usize, target: UnitNumber, message: Option<M>)
-        requires leads { LeadsTo (M.inlets self.old.stages) self.old.stages link target }
+        requires leads { LeadsToNoOther (M.inlets self.old.stages) self.old.stages link target }
         ensures table { self.new ≡ record self.old {
           table = put_on self.old.table link message;
           targets = self.new.targets;

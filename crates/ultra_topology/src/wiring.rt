@@ -133,7 +133,6 @@ impl Model for Wiring {
     ghost invariant = { λ w. IsWired w.net w.modules w.elements w.size w.switches.items };
 }
 
-#[tactic(auto, using(crate::proofs::Readers::requests_at, crate::proofs::Readers::replies_at))]
 impl Wiring {
     /// That of a network. An error says that memory was refused.
     pub fn of(alloc: Global, net: Net) -> Result<Wiring, AllocError>

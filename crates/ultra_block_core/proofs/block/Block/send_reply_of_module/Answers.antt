@@ -9,7 +9,7 @@ invariant_of-self-2 g c =
     module_kept c.self.invariant c.note_module_sent_reply.ensures c.args.module_number (Some c.in-Some.memory_module) (Some c.send_reply_if-out.new.memory_module) (grind (arith, get_or_default)) (grind arith) (grind arith)
 
 pub send_from_end-requires-clause-leads : goal.send_from_end-requires-clause-leads
-send_from_end-requires-clause-leads g c = module_leads _ _ _ (omega arith) (omega arith) (rw (← c.self.view_is) at c.requires.is).small (search rules)
+send_from_end-requires-clause-leads g c = (module_leads _ _ _ (omega arith) (omega arith) (rw (← c.self.view_is) at c.requires.is).small (search rules)).no_other
 
 pub invariant_of-self : goal.invariant_of-self
 invariant_of-self g c = grind (arith, common_steps)

@@ -9,7 +9,7 @@ invariant_of-self-2 g c =
     element_kept c.self.invariant c.note_element_sent_request.ensures c.args.pe (Some c.in-Some.element) (Some c.send_request-out.new.self) (grind (arith, get_or_default)) (grind (arith, nat_tests)) (grind arith)
 
 pub send_from_end-requires-clause-leads : goal.send_from_end-requires-clause-leads
-send_from_end-requires-clause-leads g c = element_leads _ _ _ (omega arith) (omega arith) (rw (← c.self.view_is) at c.requires.is).small (search rules)
+send_from_end-requires-clause-leads g c = (element_leads _ _ _ (omega arith) (omega arith) (rw (← c.self.view_is) at c.requires.is).small (search rules)).no_other
 
 pub invariant_of-self : goal.invariant_of-self
 invariant_of-self g c = grind (arith, common_steps)
