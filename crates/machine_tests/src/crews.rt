@@ -125,7 +125,7 @@ fn gate_meets_when_kept(rt: HostRuntime) -> Result<(), Fail> {
 /// the gate. With two threads the turns run out, since one of them has two blocks.
 #[test]
 fn three_meet(rt: HostRuntime) -> Result<(), Fail> {
-    let meeting = MeetingOfThree::new();
+    let meeting = MeetingOfThree::new([true; 3]);
     cycles_by(&rt, THREE_BLOCKS, 3, &meeting, 8)?;
     check_equal(&rt, meeting.halves_met(), Some(8 * 6));
     Ok(())
@@ -133,8 +133,19 @@ fn three_meet(rt: HostRuntime) -> Result<(), Fail> {
 
 #[test]
 fn three_meet_when_kept(rt: HostRuntime) -> Result<(), Fail> {
-    let meeting = MeetingOfThree::new();
+    let meeting = MeetingOfThree::new([true; 3]);
     cycles_by_kept(&rt, THREE_BLOCKS, 3, &meeting, 8)?;
+    check_equal(&rt, meeting.halves_met(), Some(8 * 6));
+    Ok(())
+}
+
+/// Three blocks with work and two workers: in every half the worker of block 1 waits for the other,
+/// which has blocks 0 and 2. If the gate's calls for blocks 0 and 1 are exchanged, the turns run
+/// out, since the one that waits is then the worker of block 2.
+#[test]
+fn one_waits_for_two_blocks(rt: HostRuntime) -> Result<(), Fail> {
+    let meeting = MeetingOfThree::new([false, true, false]);
+    cycles_by(&rt, THREE_BLOCKS, 2, &meeting, 8)?;
     check_equal(&rt, meeting.halves_met(), Some(8 * 6));
     Ok(())
 }
@@ -154,7 +165,7 @@ fn run_by_three<R: Threads + Wait + Sync + AllocGlobal, G: Gate + Sync>(
 /// A run by three workers, whose units are dealt to three blocks.
 #[test]
 fn three_meet_in_a_run(rt: HostRuntime) -> Result<(), Fail> {
-    let meeting = MeetingOfThree::new();
+    let meeting = MeetingOfThree::new([true; 3]);
     let mut out = MemorySink::new(rt.alloc())?;
     run_by_three(&rt, &meeting, &mut out)?;
     check_equal(&rt, out.text()?, COMBINED_PAIR);

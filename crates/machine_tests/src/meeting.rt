@@ -8,17 +8,20 @@ use std::thread;
 use ultra_crew::{Gate, Half};
 
 /// A gate at which the workers of blocks 0, 1 and 2 meet. Each raises its flag to the number of the
-/// half, and waits for the others' flags, 10,000,000 turns at most.
+/// half. For a block that waits, it then waits for the others' flags, 10,000,000 turns at most.
 #[derive(Drop)]
 pub(crate) struct MeetingOfThree {
+    /// By the block's number, whether it waits.
+    waits: [bool; 3],
     flags: [AtomicU64; 3],
     missed: AtomicU64,
 }
 
 impl MeetingOfThree {
-    /// A gate to which nobody has come yet.
-    pub(crate) fn new() -> MeetingOfThree {
+    /// A gate to which nobody has come yet, at which these blocks wait.
+    pub(crate) fn new(waits: [bool; 3]) -> MeetingOfThree {
         MeetingOfThree {
+            waits,
             flags: [AtomicU64::new(0), AtomicU64::new(0), AtomicU64::new(0)],
             missed: AtomicU64::new(0),
         }
@@ -33,13 +36,17 @@ impl MeetingOfThree {
         have_come || self.missed.load(Ordering::SeqCst) > 0
     }
 
-    /// The worker of a block comes to the half of this number, and waits for the others.
+    /// The worker of a block comes to the half of this number, and waits for the others if the
+    /// block does.
     fn come(&self, block: usize, number: u64)
         requires { block < 3 }
     {
         let mine = &self.flags[block];
         if mine.swap(number, Ordering::SeqCst).saturating_add(1) != number {
             self.missed.fetch_add(1, Ordering::SeqCst);
+        }
+        if !self.waits[block] {
+            return;
         }
         for _ in 0..10_000_000 {
             if self.is_over(number) {

@@ -85,6 +85,6 @@ fn make_all<R: Wait, G: Gate>(
 {
     for task in team.iter_mut() {
         let call = task.call_gate(rt, gate, name);
-        task.make(call, rooms);
+        task.make(name, call, rooms);
     }
 }

@@ -8,7 +8,7 @@ use Rattle.ultra_crew.proofs.assignment.make_all.Goals as goal
 pub loop-task-preserved : goal.loop-task-preserved
 loop-task-preserved g c =
     stepped (task_after_own_half c.args.name.half c.args.rooms.now) c.args.team.now c.loop-task.team c.loop-task.task-index c.make.new.self c.task-item.result
-    (omega arith) c.loop-task.invariant (rw c.call_gate-call.ensures.half at c.make.ensures)
+    (omega arith) c.loop-task.invariant c.make.ensures
 
 pub loop-task-init : goal.loop-task-init
 loop-task-init g c = refl
@@ -16,8 +16,8 @@ loop-task-init g c = refl
 pub make-requires-clause-ready : goal.make-requires-clause-ready
 make-requires-clause-ready g c =
     let (program, can) = c.requires in
-    rw c.call_gate-call.ensures.half (holds_next (task_after_own_half c.args.name.half c.args.rooms.now) (λ (t : BlockTask). CanBeMade t.block.program c.args.name.half t) c.args.team.now c.loop-task.team c.loop-task.task-index c.task-item.result
-    (omega arith) c.loop-task.invariant (λ i d below. can_by_own program _ c.args.name.half (can i d below)))
+    holds_next (task_after_own_half c.args.name.half c.args.rooms.now) (λ (t : BlockTask). CanBeMade t.block.program c.args.name.half t) c.args.team.now c.loop-task.team c.loop-task.task-index c.task-item.result
+    (omega arith) c.loop-task.invariant (λ i d below. can_by_own program _ c.args.name.half (can i d below))
 
 pub returns : goal.returns
 returns g c =
