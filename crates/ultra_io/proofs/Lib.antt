@@ -3,3 +3,4 @@ pub mod Writing
 pub mod WrittenBytes
 pub mod Pairs
 pub mod Numerals
+pub mod GivenFiles

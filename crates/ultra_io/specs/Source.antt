@@ -1,5 +1,5 @@
 -- what a source of files has read, and how it fails; this project's profile
-use Rattle.std.specs.Prelude.{◌≡◌, ℕ, List, Option, IfSome}
+use Rattle.std.specs.Prelude.{◌≡◌, ℕ, List, Option, IfSome, All}
 use Rattle.ultra_io.specs.declared.source.SourceFault.{SourceFault}
 use Rattle.ultra_io.specs.declared.source.SourceFault.TheVariants.{NotRead, NoMemory}
 
@@ -20,3 +20,8 @@ failures_of NoMemory = 0
 -- these are all bytes that a reader gives, where std says which it gives
 abbrev pub AreAllBytes : Option (List ℕ) → List ℕ → Type 0
 AreAllBytes known bytes = IfSome known (λ given. bytes ≡ given)
+
+-- each of the files has all bytes that some open file gave
+pub record AreGivenByFiles {F : Type 0} (remaining : F → Option (List ℕ))
+    (files : List File) : Type 0 where
+  pub each : All (λ (f : File). (opened : F) × AreAllBytes (remaining opened) f.bytes) files

@@ -3,8 +3,8 @@
 ghost use Rattle.std.specs.Prelude.{◌≡◌, ◌≢◌, ◌↔◌, ℕ, ◌+◌, List, [], ◌∷◌, ◌++◌, IfOk, OnOk, IfErr, OnErr};
 ghost use Rattle.std.specs.Io.KnownBytes.{IsAtEnd};
 ghost use Rattle.std.specs.IoError.{error_kind};
-ghost use Rattle.ultra_io.specs.Account.{SourceState, source_state};
-ghost use Rattle.ultra_io.specs.Source.{File, file_of, failures_of, AreAllBytes};
+ghost use Rattle.ultra_io.specs.Account.{SourceState, files_in, source_state};
+ghost use Rattle.ultra_io.specs.Source.{File, file_of, failures_of, AreAllBytes, AreGivenByFiles};
 
 use crate::account::Account;
 use std::alloc::Global;
@@ -52,6 +52,9 @@ impl<'r, R: Files> Model for FileSource<'r, R> {
     ghost Value = { SourceState };
 
     ghost view = { λ s. source_state s.account };
+
+    // the bytes of each file that was read are those that an open file gave
+    ghost invariant = { λ s. AreGivenByFiles R.File.remaining (files_in s.account) };
 }
 
 impl<'r, R: Files> FileSource<'r, R> {

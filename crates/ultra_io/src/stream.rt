@@ -2,24 +2,31 @@
 
 ghost use Rattle.std.specs.Prelude.{◌≡◌, ◌≤◌, [], length, take, IfNone, IfSome};
 ghost use Rattle.std.specs.Io.KnownBytes.{Appends};
-ghost use Rattle.ultra_io.specs.Account.{SinkState, sink_state};
+ghost use Rattle.ultra_io.specs.Account.{SinkState, bytes_in, sink_state};
 
 use crate::account::Account;
 use std::io::Write;
 use std::marker::Model;
+use std::snapshot::Snapshot;
 use ultra_msg::{Sink, SinkFault};
 
 /// A writer of std as a sink. It passes each piece on at once, and copies nothing.
 #[derive(Drop)]
-pub struct Stream<W> {
+pub struct Stream<W: Write> {
     writer: W,
+    /// The writer as it was at first, for contracts alone.
+    first: Snapshot<W>,
     account: Account,
 }
 
-impl<W> Model for Stream<W> {
+impl<W: Write> Model for Stream<W> {
     ghost Value = { SinkState };
 
     ghost view = { λ s. sink_state s.account };
+
+    // what the writer holds is what it held at first, and then the bytes that were taken
+    ghost invariant = { λ s. Appends (W.contents s.first.value) (W.contents s.writer)
+        (bytes_in s.account) };
 }
 
 impl<W: Write> Stream<W> {
@@ -28,6 +35,7 @@ impl<W: Write> Stream<W> {
         ensures { result ≡ record { taken = []; failures = 0 } }
     {
         Stream {
+            first: Snapshot::of(&writer),
             writer,
             account: Account::Opened,
         }
