@@ -1,11 +1,12 @@
 //! A run by several workers, and text that is written of it.
 
-ghost use Rattle.std.specs.Prelude.{◌≡◌, ℕ, ◌+◌, ◌≤◌, ◌++◌, [], false, OnOk, OnErr, IfOk, IfErr};
+ghost use Rattle.std.specs.Prelude.{◌≡◌, ℕ, ◌+◌, ◌≤◌, ◌++◌, [], false, true, Err, OnOk, OnErr, IfOk, IfErr};
 ghost use Rattle.std.specs.Result.{ForOk};
 ghost use Rattle.ultra_msg.specs.Bytes.{TakesPrefix};
-ghost use Rattle.ultra_io.specs.TextBuffer.{Writes, WritesPrefix, has_failed};
+ghost use Rattle.ultra_io.specs.TextBuffer.{IsBlank, Writes, WritesPrefix, has_failed};
 ghost use Rattle.ultra_model.specs.Trace.{by_number, cycle_count};
 ghost use Rattle.ultra_crew.specs.ExpectedResults.{AreExpectedResults};
+ghost use Rattle.ultra_trace_alone.specs.declared.fault.RunFault.TheVariants.{Write};
 ghost use Rattle.ultra_trace_alone.specs.Faults.{sink_faults};
 ghost use Rattle.ultra_trace_alone.specs.BlocksAfter.{IsAfter};
 ghost use Rattle.ultra_trace_alone.specs.Dealt.{IsDealtOut};
@@ -171,7 +172,24 @@ fn write_by_pool<J: ExpectedResults, R: Wait, T: RunText, S: Sink>(
         S.failures sink.new ≡ S.failures sink.old + sink_faults e) }
 {
     let mut buffer = TextBuffer::new(sink);
-    match put_text_together(&mut buffer, rt, alloc, blocks, pool, text) {
+    let made = put_text_together(&mut buffer, rt, alloc, blocks, pool, text);
+    finish_text(&mut buffer, made)
+}
+
+/// Ends a text whose cycles were made, or not, by workers: flushes what still waits. A fault of the
+/// workers is the run's fault, and what waits is lost then.
+fn finish_text<S: Sink>(
+    buffer: &mut TextBuffer<'_, S>,
+    made: Result<(), CrewFault>,
+) -> Result<(), RunFault>
+    ensures refused { IfErr made (λ e. result ≡ Err (fault_of_crew e)) }
+    ensures left { OnErr made (buffer.new ≡ buffer.old) }
+    ensures writes { OnOk made (Writes S.taken S.failures [] buffer.old buffer.new) }
+    ensures ok { OnOk made (OnOk result (IsBlank buffer.new)) }
+    ensures write { OnOk made (IfErr result (λ e. e ≡ Write)) }
+    ensures err { OnOk made (OnErr result (has_failed buffer.new ≡ true)) }
+{
+    match made {
         Ok(()) => Ok(buffer.finish()?),
         Err(fault) => Err(fault_of_crew(fault)),
     }

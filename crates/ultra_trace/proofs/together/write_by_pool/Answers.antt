@@ -1,35 +1,22 @@
 use Rattle.std.proofs.Common.{rules}
-use Rattle.std.proofs.lemmas.Result.{IfOk-from_err}
 use Rattle.ultra_trace_alone.specs.RunText.{run_text}
-use Rattle.ultra_io.proofs.Writing.{finished, part_taken}
+use Rattle.ultra_trace.proofs.Ended.{ended}
 use Rattle.ultra_trace.proofs.together.write_by_pool.Goals as goal
 
-pub returns-in-Err-clause-err : goal.returns-in-Err-clause-err
-returns-in-Err-clause-err g c =
-    let first = c.args.blocks in
-    let (part, begins, writes) = rw c.in-Err.is at c.put_text_together.ensures.err in
-    let taken = part_taken part (run_text g.T.RunText.opening (g.T.RunText.lines c.args.text) g.T.RunText.closing first.config first.program) _ _ c.new-buffer.ensures.blank.empty (rw c.in-Err.is at c.put_text_together.ensures.sound) begins writes.wrote in
+pub returns-clause-ok : goal.returns-clause-ok
+returns-clause-ok g c =
+    let text = run_text g.T.RunText.opening (g.T.RunText.lines c.args.text) g.T.RunText.closing c.args.blocks.config c.args.blocks.program in
+    let made = c.put_text_together-made.ensures in
+    let finished = c.finish_text.ensures in
+    let e = ended g.S.Sink.taken g.S.Sink.failures text _ _ _ c.new-buffer.ensures.blank c.put_text_together-made.result c.finish_text.result made.ok made.err made.sound finished.refused finished.left finished.writes finished.ok finished.err in
+    let ok = e.ok in
     search rules
 
-pub returns-in_ok-finish-in-Ok-clause-ok : goal.returns-in_ok-finish-in-Ok-clause-ok
-returns-in_ok-finish-in-Ok-clause-ok g c =
-    let gone = finished c.finish.result c.new-buffer.ensures.blank (rw c.in-Ok.is at c.put_text_together.ensures.ok) c.finish.ensures.writes c.finish.ensures.ok c.finish.ensures.err in
-    let ok = rw c.in_ok-finish-in-Ok.was at gone.ok in
-    search rules
-
-pub returns-in_ok-finish-in-Ok-clause-still : goal.returns-in_ok-finish-in-Ok-clause-still
-returns-in_ok-finish-in-Ok-clause-still g c =
-    let gone = finished c.finish.result c.new-buffer.ensures.blank (rw c.in-Ok.is at c.put_text_together.ensures.ok) c.finish.ensures.writes c.finish.ensures.ok c.finish.ensures.err in
-    let still = rw c.in_ok-finish-in-Ok.was at gone.still in
-    search rules
-
-pub returns-in_err-finish-in-Ok-clause-ok : goal.returns-in_err-finish-in-Ok-clause-ok
-returns-in_err-finish-in-Ok-clause-ok g c = IfOk-from_err c.from_residual.result _ c.from_residual.ensures.0
-
-pub returns-in_err-finish-in-Ok-clause-still : goal.returns-in_err-finish-in-Ok-clause-still
-returns-in_err-finish-in-Ok-clause-still g c = IfOk-from_err c.from_residual.result _ c.from_residual.ensures.0
-
-pub returns-in_err-finish-in-Ok-clause-err : goal.returns-in_err-finish-in-Ok-clause-err
-returns-in_err-finish-in-Ok-clause-err g c =
-    let gone = finished c.finish.result c.new-buffer.ensures.blank (rw c.in-Ok.is at c.put_text_together.ensures.ok) c.finish.ensures.writes c.finish.ensures.ok c.finish.ensures.err in
+pub returns-clause-err : goal.returns-clause-err
+returns-clause-err g c =
+    let text = run_text g.T.RunText.opening (g.T.RunText.lines c.args.text) g.T.RunText.closing c.args.blocks.config c.args.blocks.program in
+    let made = c.put_text_together-made.ensures in
+    let finished = c.finish_text.ensures in
+    let e = ended g.S.Sink.taken g.S.Sink.failures text _ _ _ c.new-buffer.ensures.blank c.put_text_together-made.result c.finish_text.result made.ok made.err made.sound finished.refused finished.left finished.writes finished.ok finished.err in
+    let err = e.err in
     search rules
