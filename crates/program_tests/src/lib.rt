@@ -19,3 +19,5 @@ mod memory_files;
 mod programs;
 #[cfg(test)]
 mod settings;
+#[cfg(test)]
+mod streams;
