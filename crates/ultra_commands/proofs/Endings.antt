@@ -7,7 +7,7 @@ use Rattle.ultra_isa.specs.declared.Instr.{Instr}
 use Rattle.ultra_model.specs.Machine.{Settings}
 use Rattle.ultra_io.specs.Account.{SinkState}
 use Rattle.ultra_inputs.specs.declared.failure.Failure.{Failure}
-use Rattle.ultra_inputs.specs.declared.failure.Failure.TheVariants.{NotFenced, NotLegal, NoThread, HeapFull, NotWritten}
+use Rattle.ultra_inputs.specs.declared.failure.Failure.TheVariants.{NotFenced, NotLegal, NoThread, HeapTooSmall, HeapFull, NotWritten}
 use Rattle.ultra_inputs.specs.Failure.{status_of, read_failures, write_failures}
 use Rattle.ultra_inputs.specs.Traffic.{Traffic, IsStopped, WroteText, TextFails}
 use Rattle.ultra_commands.specs.Listing.{ListFails, unread_text, refused_text, unwritten, not_careful}
@@ -48,8 +48,9 @@ is_stopped_by workers f (inl s) = is_stopped f s
 is_stopped_by workers f (inr s) = ended_by f NoThread s.0 not_four
 
 is_cut_short : (f : Failure) → IsCutShort f → ¬ IsRefusal (status_of f)
-is_cut_short f (inl e) = ended_by f HeapFull e not_four
-is_cut_short f (inr s) = is_stopped f s
+is_cut_short f (inl e) = ended_by f HeapTooSmall e not_four
+is_cut_short f (inr (inl e)) = ended_by f HeapFull e not_four
+is_cut_short f (inr (inr s)) = is_stopped f s
 
 module _ (conf prog : List ℕ) (old new : Traffic) (f : Failure) (text : Settings → List Instr → List ℕ) where
   stopped_by_refused : (workers : ℕ) → TextFails text (IsStoppedBy workers) conf prog old new f → IsRefusal (status_of f) → new.written ≡ old.written
@@ -75,9 +76,9 @@ pub explain_refused : (conf prog : List ℕ) (old new : Traffic) (f : Failure) �
 explain_refused conf prog old new f why = cut_short_refused conf prog old new f explanation_of why.fails
 
 -- what the command explain says of its failure, as one fact
-pub explain_failed : {T : Type 0} (conf prog : List ℕ) (old new : Traffic) (r : Result T Failure) → IfErr r (TextFails explanation_of IsCutShort conf prog old new) → IfErr r (λ f. f ≡ HeapFull → EndsFull conf prog old new) → IfErr r (ExplainFails conf prog old new)
-explain_failed conf prog old new (Ok x) fails full = fails
-explain_failed conf prog old new (Err f) fails full = record { fails = fails; full = full }
+pub explain_failed : {T : Type 0} (conf prog : List ℕ) (old new : Traffic) (r : Result T Failure) → IfErr r (TextFails explanation_of IsCutShort conf prog old new) → IfErr r (λ f. f ≡ HeapFull → EndsFull conf prog old new) → IfErr r (λ f. f ≡ HeapTooSmall → new.written ≡ old.written) → IfErr r (ExplainFails conf prog old new)
+explain_failed conf prog old new (Ok x) fails full small = fails
+explain_failed conf prog old new (Err f) fails full small = record { fails = fails; full = full; too_small = small }
 
 pub list_refused : (prog : List ℕ) (careful : Bool) (old new : Traffic) (f : Failure) → ListFails prog careful old new f → IsRefusal (status_of f) → new.written ≡ old.written
 list_refused prog careful old new f (unread_text why same) r = ap (λ t. t.written) same

@@ -5,7 +5,7 @@ use Rattle.ultra_args.specs.declared.Invocation.TheVariants.{Run, Events, Reques
 use Rattle.ultra_command_line.specs.declared.Parsed.{Parsed}
 use Rattle.ultra_command_line.specs.declared.Parsed.TheVariants as parsed
 use Rattle.ultra_inputs.specs.declared.failure.Failure.{Failure}
-use Rattle.ultra_inputs.specs.declared.failure.Failure.TheVariants.{Usage, NoMemory, HeapFull, NotWritten}
+use Rattle.ultra_inputs.specs.declared.failure.Failure.TheVariants.{Usage, NoMemory, HeapTooSmall, HeapFull, NotWritten}
 use Rattle.ultra_inputs.specs.Traffic.{Traffic, IsStopped, WroteText, TextFails}
 use Rattle.ultra_inputs.specs.Failure.{status_of, read_failures}
 use Rattle.ultra_io.specs.Account.{SinkState}
@@ -23,10 +23,12 @@ use Rattle.ultra_sweep_command.specs.Sweep.{Swept, SweepFails}
 use Rattle.ultra_requests.specs.EventLines.{events_of}
 use Rattle.ultra_requests.specs.RequestTable.{requests_of}
 
--- how an explanation fails: where the heap is full, the lines before a combination are written
+-- how an explanation fails: where the heap is full, the lines before a combination are written, and
+-- nothing where it is too small
 pub record ExplainFails (conf prog : List ℕ) (old new : Traffic) (f : Failure) : Type 0 where
   pub fails : TextFails explanation_of IsCutShort conf prog old new f
   pub full : f ≡ HeapFull → EndsFull conf prog old new
+  pub too_small : f ≡ HeapTooSmall → new.written ≡ old.written
 
 -- help or the version was written
 abbrev pub WroteAnswer : List ℕ → Traffic → Traffic → Type 0

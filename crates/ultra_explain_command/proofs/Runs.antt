@@ -15,7 +15,7 @@ use Rattle.ultra_serial_law.proofs.Mentions.{trees_noted, noted_trees}
 use Rattle.ultra_serial_law.specs.Explicable.{AreAbsorbable, AreExplicable}
 use Rattle.ultra_serial_law.proofs.Rest.{IsAtRest, rest_if_quiet, rest_cycle, nothing_happens}
 use Rattle.ultra_tree.specs.Absorb.{ExplainerState}
-use Rattle.ultra_explain_command.specs.Explanation.{event_lines, trees_after_all, lines_of_first, StopsAtCombination, StopsFull, in_cycle}
+use Rattle.ultra_explain_command.specs.Explanation.{event_lines, trees_after_all, lines_of_first, StopsAtCombination, StopsFull}
 
 noted_all : (es : List Event) (ks : List Kept) → trees_noted es ks ≡ trees_after_all ks es
 noted_all [] ks = refl
@@ -98,4 +98,4 @@ module _ (c : Settings) (program : List Instr) where
       full_there new h s =
           let all : now ++ waits ≡ (old ++ waited) ++ lines_of_first c program n =
           rest_passed_on so_far refl ∙ sym (append_assoc old waited (lines_of_first c program n)) in
-          in_cycle n h (rw (now_is, here, all) at s)
+          record { cycle = n; within = h; stops = rw (now_is, here, all) at s }

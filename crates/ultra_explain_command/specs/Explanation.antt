@@ -7,7 +7,7 @@ use Rattle.ultra_model.specs.Machine.{Settings}
 use Rattle.ultra_model.specs.Phases.{after}
 use Rattle.ultra_model.specs.Trace.{cycle_count}
 use Rattle.ultra_inputs.specs.declared.failure.Failure.{Failure}
-use Rattle.ultra_inputs.specs.declared.failure.Failure.TheVariants.{HeapFull}
+use Rattle.ultra_inputs.specs.declared.failure.Failure.TheVariants.{HeapTooSmall, HeapFull}
 use Rattle.ultra_inputs.specs.Inputs.{Gave}
 use Rattle.ultra_inputs.specs.Traffic.{IsStopped, Traffic}
 use Rattle.ultra_serial_law.specs.Tree.{Tree, Kept, tree_of, trees_after}
@@ -51,9 +51,13 @@ lines_of_first c p (suc n) =
 abbrev pub explanation_of : Settings → List Instr → List ℕ
 explanation_of c p = lines_of_first c p (cycle_count c p)
 
--- why an explanation ends early
+-- why the lines of a run end early
+abbrev pub AreLinesCut : Failure → Type 0
+AreLinesCut f = (f ≡ HeapFull) ⊎ IsStopped f
+
+-- why an explanation ends early: also where the heap has no room for an explainer
 abbrev pub IsCutShort : Failure → Type 0
-IsCutShort f = (f ≡ HeapFull) ⊎ IsStopped f
+IsCutShort f = (f ≡ HeapTooSmall) ⊎ AreLinesCut f
 
 -- to an old text come the lines of a cycle's events before a combination among them
 pub record StopsAtCombination (c : ℕ) (ks : List Kept) (es : List Event)
@@ -64,13 +68,12 @@ pub record StopsAtCombination (c : ℕ) (ks : List Kept) (es : List Event)
   pub combines : IsCombination event
   pub lines : new ≡ old ++ event_lines c ks (take before es)
 
--- what comes to it where the heap is full: nothing where it has no room for an explainer, else all
--- lines of the run before a combination
-pub data StopsFull (c : Settings) (p : List Instr) (old new : List ℕ) : Type 0 where
-  at_start : new ≡ old → StopsFull c p old new
-  in_cycle : (n : ℕ) → n < c.cycles
-      → StopsAtCombination n (history c p n).trees (after c p (n + 1)).events
-      (old ++ lines_of_first c p n) new → StopsFull c p old new
+-- what comes to it where the heap is full: all lines of the run before a combination
+pub record StopsFull (c : Settings) (p : List Instr) (old new : List ℕ) : Type 0 where
+  pub cycle : ℕ
+  pub within : cycle < c.cycles
+  pub stops : StopsAtCombination cycle (history c p cycle).trees (after c p (cycle + 1)).events
+      (old ++ lines_of_first c p cycle) new
 
 -- two files were read, and a full heap ends the lines of their settings and program
 pub record EndsFull (conf prog : List ℕ) (old new : Traffic) : Type 0 where

@@ -8,10 +8,10 @@ ghost use Rattle.ultra_model.specs.Machine.{size, start};
 ghost use Rattle.ultra_model.specs.Ranges.{AreInRange};
 ghost use Rattle.ultra_serial_law.specs.Explicable.{AreAbsorbable};
 ghost use Rattle.ultra_tree.specs.Absorb.{nothing_absorbed};
-ghost use Rattle.ultra_inputs.specs.declared.failure.Failure.TheVariants.{HeapFull};
+ghost use Rattle.ultra_inputs.specs.declared.failure.Failure.TheVariants.{HeapTooSmall, HeapFull};
 ghost use Rattle.ultra_inputs.specs.Failure.{read_failures, write_failures};
 ghost use Rattle.ultra_inputs.specs.Traffic.{traffic, WroteText, TextFails};
-ghost use Rattle.ultra_explain_command.specs.Explanation.{event_lines, trees_after_all, explanation_of, EndsFull, IsCutShort, StopsAtCombination, StopsFull};
+ghost use Rattle.ultra_explain_command.specs.Explanation.{event_lines, trees_after_all, explanation_of, AreLinesCut, EndsFull, IsCutShort, StopsAtCombination, StopsFull};
 
 use crate::acts::put_lines;
 use crate::line_buffer::LineBuffer;
@@ -36,8 +36,9 @@ const PIECE_BYTES: usize = 4096;
 /// run, a line for each. Each file is accepted before the next is read, and both before a byte is
 /// written.
 ///
-/// The trees live in a heap of `heap_bytes` bytes, and nothing else does. `HeapFull` says that it
-/// has no room for them; the lines of the acts before that are written. After any other error `out`
+/// The trees live in a heap of `heap_bytes` bytes, and nothing else does. `HeapTooSmall` says that
+/// it has no room for the explainer; nothing is written then. `HeapFull` says that it has no room
+/// for a combination; the lines of all acts before that are written. After any other error `out`
 /// has taken a prefix of the lines, and nothing where a file was refused.
 pub fn explain<'p, F: Source, O: Sink>(
     alloc: Global,
@@ -56,6 +57,8 @@ pub fn explain<'p, F: Source, O: Sink>(
     ensures full { IfErr result (λ f. f ≡ HeapFull →
         EndsFull settings_path.now program_path.now (traffic (F.files source.old) (O.taken out.old))
         (traffic (F.files source.new) (O.taken out.new))) }
+    ensures too_small { IfErr result
+        (λ f. f ≡ HeapTooSmall → O.taken out.new ≡ O.taken out.old) }
     ensures read_still { OnOk result (F.failures source.new ≡ F.failures source.old) }
     ensures read_counted { IfErr result
         (λ f. F.failures source.new ≡ F.failures source.old + read_failures f) }
@@ -84,6 +87,8 @@ fn explain_run<'p, O: Sink>(
     ensures fault { IfErr result IsCutShort }
     ensures full { IfErr result (λ f. f ≡ HeapFull
         → StopsFull config.now program.now (O.taken out.old) (O.taken out.new)) }
+    ensures too_small { IfErr result
+        (λ f. f ≡ HeapTooSmall → O.taken out.new ≡ O.taken out.old) }
     ensures still { OnOk result (O.failures out.new ≡ O.failures out.old) }
     ensures counted { IfErr result
         (λ f. O.failures out.new ≡ O.failures out.old + write_failures f) }
@@ -117,7 +122,7 @@ fn explain_program<'p, O: Sink>(
         (O.taken out.new ≡ O.taken out.old ++ explanation_of config.now program.now) }
     ensures err { OnErr result
         (TakesPrefix (explanation_of config.now program.now) (O.taken out.old) (O.taken out.new)) }
-    ensures fault { IfErr result IsCutShort }
+    ensures fault { IfErr result AreLinesCut }
     ensures full { IfErr result (λ f. f ≡ HeapFull
         → StopsFull config.now program.now (O.taken out.old) (O.taken out.new)) }
     ensures still { OnOk result (O.failures out.new ≡ O.failures out.old) }
@@ -144,7 +149,7 @@ fn explain_machine<'p, O: Sink>(
     ensures err { OnErr result
         (TakesPrefix (explanation_of machine.old.settings machine.old.program)
         (O.taken out.old) (O.taken out.new)) }
-    ensures fault { IfErr result IsCutShort }
+    ensures fault { IfErr result AreLinesCut }
     ensures full { IfErr result (λ f. f ≡ HeapFull → StopsFull machine.old.settings
         machine.old.program (O.taken out.old) (O.taken out.new)) }
     ensures still { OnOk result (O.failures out.new ≡ O.failures out.old) }
@@ -157,18 +162,18 @@ fn explain_machine<'p, O: Sink>(
 }
 
 /// An explainer of a machine with these settings, which holds no trees. It is given the heap and no
-/// other allocator. `HeapFull` says that the heap has no room for it.
+/// other allocator. `HeapTooSmall` says that the heap has no room for it.
 fn new_explainer<'p, 'h>(
     config: &Config,
     heap: &'h LocalHeap,
 ) -> Result<HeapExplainer<'h>, Failure<'p>>
     ensures explainer { IfOk result
         (λ e. e ≡ nothing_absorbed (size config.now) config.now.most_open) }
-    ensures no_room { IfErr result (λ f. f ≡ HeapFull) }
+    ensures no_room { IfErr result (λ f. f ≡ HeapTooSmall) }
 {
     match Explainer::new(config, heap) {
         Ok(explainer) => Ok(explainer),
-        Err(_) => Err(Failure::HeapFull),
+        Err(_) => Err(Failure::HeapTooSmall),
     }
 }
 
@@ -189,7 +194,7 @@ fn explain_cycles<'p, O: Sink>(
     ensures err { OnErr result (TakesPrefix
         (lines.old.bytes.items ++ explanation_of machine.old.settings machine.old.program)
         (O.taken out.old) (O.taken out.new)) }
-    ensures fault { IfErr result IsCutShort }
+    ensures fault { IfErr result AreLinesCut }
     ensures full { IfErr result (λ f. f ≡ HeapFull → StopsFull machine.old.settings
         machine.old.program (O.taken out.old ++ lines.old.bytes.items) (O.taken out.new)) }
     ensures still { OnOk result (O.failures out.new ≡ O.failures out.old) }
@@ -226,7 +231,7 @@ fn explain_cycle<'p, O: Sink>(
         (O.taken out.old) lines.old.bytes.items (O.taken out.new) lines.new.bytes.items) }
     ensures err { OnErr result (TakesPrefix (lines.old.bytes.items ++
         event_lines cycle explainer.old.trees events.now) (O.taken out.old) (O.taken out.new)) }
-    ensures fault { IfErr result IsCutShort }
+    ensures fault { IfErr result AreLinesCut }
     ensures full { IfErr result (λ f. f ≡ HeapFull
         → StopsAtCombination cycle explainer.old.trees events.now
         (O.taken out.old ++ lines.old.bytes.items) (O.taken out.new)) }

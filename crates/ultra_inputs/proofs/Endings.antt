@@ -4,7 +4,7 @@ use Rattle.std.specs.Prelude.{List}
 use Rattle.ultra_isa.specs.declared.Instr.{Instr}
 use Rattle.ultra_model.specs.Machine.{Settings}
 use Rattle.ultra_inputs.specs.declared.failure.Failure.{Failure}
-use Rattle.ultra_inputs.specs.declared.failure.Failure.TheVariants.{Usage, ArgumentsNotUtf8, NotRead, NotToml, BadField, UnknownKey, NotUtf8, BadProgramLine, BadJob, NotAnEntry, BadPe, NotFenced, NotLegal, BadParameter, NoMemory, NoThread, HeapFull, NotWritten}
+use Rattle.ultra_inputs.specs.declared.failure.Failure.TheVariants.{Usage, ArgumentsNotUtf8, NotRead, NotToml, BadField, UnknownKey, NotUtf8, BadProgramLine, BadJob, NotAnEntry, BadPe, NotFenced, NotLegal, BadParameter, NoMemory, NoThread, HeapTooSmall, HeapFull, NotWritten}
 use Rattle.ultra_inputs.specs.Failure.{status_of, read_failures, write_failures}
 use Rattle.ultra_inputs.specs.Status.{IsStatus, IsRefusal, status_failures}
 use Rattle.ultra_inputs.specs.Traffic.{Traffic, IsStopped, TextFails, refused, stopped}
@@ -48,6 +48,7 @@ ends NotLegal = record { status = one; bad = λ e. cc; unread = λ ne. refl; wri
 ends BadParameter = record { status = three; bad = λ e. cc; unread = λ ne. refl; written = refl }
 ends NoMemory = record { status = four; bad = λ e. cc; unread = λ ne. refl; written = refl }
 ends NoThread = record { status = four; bad = λ e. cc; unread = λ ne. refl; written = refl }
+ends HeapTooSmall = record { status = four; bad = λ e. cc; unread = λ ne. refl; written = refl }
 ends HeapFull = record { status = four; bad = λ e. cc; unread = λ ne. refl; written = refl }
 ends NotWritten = record { status = five; bad = λ e. cc; unread = λ ne. refl; written = refl }
 

@@ -6,7 +6,7 @@ use Rattle.ultra_asm.specs.declared.AsmFaultKind.{AsmFaultKind}
 use Rattle.ultra_asm.specs.declared.AsmFaultKind.TheVariants as kind
 use Rattle.ultra_model.specs.Accepted.{name_of}
 use Rattle.ultra_inputs.specs.declared.failure.Failure.{Failure}
-use Rattle.ultra_inputs.specs.declared.failure.Failure.TheVariants.{Usage, ArgumentsNotUtf8, NotRead, NotToml, BadField, UnknownKey, NotUtf8, BadProgramLine, BadJob, NotAnEntry, BadPe, NotFenced, NotLegal, BadParameter, NoMemory, NoThread, HeapFull, NotWritten}
+use Rattle.ultra_inputs.specs.declared.failure.Failure.TheVariants.{Usage, ArgumentsNotUtf8, NotRead, NotToml, BadField, UnknownKey, NotUtf8, BadProgramLine, BadJob, NotAnEntry, BadPe, NotFenced, NotLegal, BadParameter, NoMemory, NoThread, HeapTooSmall, HeapFull, NotWritten}
 
 -- what is wrong in a line of a program
 abbrev pub kind_text : AsmFaultKind → List ℕ
@@ -37,6 +37,7 @@ status_of NotLegal = 1
 status_of BadParameter = 3
 status_of NoMemory = 4
 status_of NoThread = 4
+status_of HeapTooSmall = 4
 status_of HeapFull = 4
 status_of NotWritten = 5
 
@@ -84,5 +85,6 @@ text_of NotLegal = []
 text_of BadParameter = codes "ultra: bad parameter\n"
 text_of NoMemory = codes "ultra: no memory\n"
 text_of NoThread = codes "ultra: no thread\n"
+text_of HeapTooSmall = codes "ultra: heap full\n"
 text_of HeapFull = codes "ultra: heap full\n"
 text_of NotWritten = codes "ultra: write failed\n"

@@ -73,7 +73,10 @@ pub enum Failure<'a> {
     NoMemory,
     /// A thread couldn't be started, or died before finishing.
     NoThread,
-    /// The heap of the combining trees is full.
+    /// The heap of the combining trees has no room for what keeps them. Standard output took
+    /// nothing.
+    HeapTooSmall,
+    /// The heap of the combining trees is full: it has no room for a combination.
     HeapFull,
     /// Standard output failed.
     NotWritten,
@@ -109,7 +112,7 @@ impl Failure<'_> {
             | Failure::NotAnEntry { .. }
             | Failure::BadPe { .. }
             | Failure::BadParameter => 3,
-            Failure::NoMemory | Failure::NoThread | Failure::HeapFull => 4,
+            Failure::NoMemory | Failure::NoThread | Failure::HeapTooSmall | Failure::HeapFull => 4,
             Failure::NotWritten => 5,
         }
     }
@@ -152,7 +155,7 @@ impl Failure<'_> {
             Failure::BadParameter => write_all(err, b"ultra: bad parameter\n"),
             Failure::NoMemory => write_all(err, b"ultra: no memory\n"),
             Failure::NoThread => write_all(err, b"ultra: no thread\n"),
-            Failure::HeapFull => write_all(err, b"ultra: heap full\n"),
+            Failure::HeapTooSmall | Failure::HeapFull => write_all(err, b"ultra: heap full\n"),
             Failure::NotWritten => write_all(err, b"ultra: write failed\n"),
         }
     }

@@ -2,7 +2,7 @@
 use Rattle.std.proofs.Common.{◌≡◌, ℕ, List, refl}
 use Rattle.ultra_io.specs.Source.{File}
 use Rattle.ultra_inputs.specs.declared.failure.Failure.{Failure}
-use Rattle.ultra_inputs.specs.declared.failure.Failure.TheVariants.{Usage, ArgumentsNotUtf8, NotRead, NotToml, BadField, UnknownKey, NotUtf8, BadProgramLine, BadJob, NotAnEntry, BadPe, NotFenced, NotLegal, BadParameter, NoMemory, NoThread, HeapFull, NotWritten}
+use Rattle.ultra_inputs.specs.declared.failure.Failure.TheVariants.{Usage, ArgumentsNotUtf8, NotRead, NotToml, BadField, UnknownKey, NotUtf8, BadProgramLine, BadJob, NotAnEntry, BadPe, NotFenced, NotLegal, BadParameter, NoMemory, NoThread, HeapTooSmall, HeapFull, NotWritten}
 use Rattle.ultra_inputs.specs.Failure.{status_of, write_failures}
 use Rattle.ultra_inputs.specs.Inputs.{IsUnread, FileGaveNothing, not_had, not_accepted}
 use Rattle.ultra_inputs.proofs.Endings.{ends}
@@ -26,6 +26,7 @@ none P never NotLegal e = refl
 none P never BadParameter e = refl
 none P never NoMemory e = refl
 none P never NoThread e = refl
+none P never HeapTooSmall e = refl
 none P never HeapFull e = refl
 none P never NotWritten e = absurd (never e)
 

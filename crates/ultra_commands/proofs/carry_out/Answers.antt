@@ -79,7 +79,7 @@ returns-in-Explain g c =
     let old = traffic (g.F.Source.files c.args.source.now) (g.O.Sink.taken c.args.out.now) in
     let new = traffic (g.F.Source.files c.explain-done.new.source) (g.O.Sink.taken c.explain-done.new.out) in
     let did = c.explain-done.ensures in
-    rw a.is (command_ended (parsed.Invocation (Explain a.settings a.program a.heap)) old new _ _ _ _ _ _ _ c.explain-done.result (WroteText explanation_of conf prog old new) (ExplainFails conf prog old new) (λ d same. (d, same)) (λ f why. (why, refl)) (explain_refused conf prog old new) did.ok (explain_failed conf prog old new c.explain-done.result did.err did.full) did.read_still did.read_counted did.write_still did.write_counted c.report_outcome-in-Explain.ensures)
+    rw a.is (command_ended (parsed.Invocation (Explain a.settings a.program a.heap)) old new _ _ _ _ _ _ _ c.explain-done.result (WroteText explanation_of conf prog old new) (ExplainFails conf prog old new) (λ d same. (d, same)) (λ f why. (why, refl)) (explain_refused conf prog old new) did.ok (explain_failed conf prog old new c.explain-done.result did.err did.full did.too_small) did.read_still did.read_counted did.write_still did.write_counted c.report_outcome-in-Explain.ensures)
 
 pub returns-in-Check : goal.returns-in-Check
 returns-in-Check g c =

@@ -22,7 +22,8 @@ never_full conf prog old new f (refused_program text other c a u e) full = subst
 none_read : (f : Failure) → IsCutShort f → read_failures f ≡ 0
 none_read f (inl e) = ap read_failures e
 none_read f (inr (inl e)) = ap read_failures e
-none_read f (inr (inr e)) = ap read_failures e
+none_read f (inr (inr (inl e))) = ap read_failures e
+none_read f (inr (inr (inr e))) = ap read_failures e
 
 no_more : {a b n : ℕ} → n ≡ 0 → a ≡ b → a ≡ b + n
 no_more none same = omega arith
@@ -81,6 +82,14 @@ returns-clause-full g c =
       gave = c.in_ok-inputs.ensures.ok;
       written = written full;
     }) c.explain_run.ensures.full
+
+pub returns-in_err-inputs-clause-too_small : goal.returns-in_err-inputs-clause-too_small
+returns-in_err-inputs-clause-too_small g c =
+    let p = err_from_is_err_and c.from_residual.result c.from_residual.ensures.1 in
+    rw (p.1, p.2) (λ small. refl)
+
+pub returns-clause-too_small : goal.returns-clause-too_small
+returns-clause-too_small g c = c.explain_run.ensures.too_small
 
 pub returns-clause-read_still : goal.returns-clause-read_still
 returns-clause-read_still g c = on_ok_weaker c.explain_run.result (λ _. c.in_ok-inputs.ensures.still) c.explain_run.ensures.still

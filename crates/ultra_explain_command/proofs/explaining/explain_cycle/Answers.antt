@@ -6,12 +6,12 @@ use Rattle.ultra_msg.proofs.Prefixes.{all_passed_on, more_waits, takes_all}
 use Rattle.ultra_inputs.specs.Failure.{write_failures}
 use Rattle.ultra_inputs.specs.declared.failure.Failure.{Failure}
 use Rattle.ultra_inputs.specs.declared.failure.Failure.TheVariants.{HeapFull, NoMemory}
-use Rattle.ultra_explain_command.specs.Explanation.{event_lines, IsCutShort}
+use Rattle.ultra_explain_command.specs.Explanation.{event_lines, AreLinesCut}
 use Rattle.ultra_explain_command.proofs.Firsts.{at_success, passed_on, put_part, stops_behind}
 use Rattle.ultra_explain_command.proofs.explaining.explain_cycle.Goals as goal
 
 -- lines that memory was refused for end the run, and nothing has failed to be written
-cut_short : {T : Type 0} (r : Result T Failure) → IfErr r (λ f. (f ≡ HeapFull) ⊎ (f ≡ NoMemory)) → IfErr r IsCutShort
+cut_short : {T : Type 0} (r : Result T Failure) → IfErr r (λ f. (f ≡ HeapFull) ⊎ (f ≡ NoMemory)) → IfErr r AreLinesCut
 cut_short (Ok x) why = tt
 cut_short (Err f) why = ⊎_elim (λ e. inl e) (λ e. inr (inl e)) why
 
