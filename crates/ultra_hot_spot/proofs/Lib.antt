@@ -16,3 +16,4 @@ pub mod Cycle
 pub mod Acts
 pub mod Opened
 pub mod Law
+pub mod FirstCycle

@@ -17,16 +17,16 @@ module _ (c : Settings) (range : AreInRange c) (m : Machine) where
     nothing_comes : (s x : ℕ) → s < c.stages → x < size c → reply_before c m s x ≡ None
     nothing_comes s x hs hx = none_before c range m s x hs hx (λ h. w.replies (s + 1) (shuffled c.stages x) h (turns_back c range x hx).entry_small) (λ h. (w.modules x hx).no_reply)
 
-    lane_is : (t x : ℕ) → t < c.stages → x < size c → lane_at (reply_phase c m) t x ≡ lane_at m t x
+    pub lane_is : (t x : ℕ) → t < c.stages → x < size c → lane_at (reply_phase c m) t x ≡ lane_at m t x
     lane_is t x ht hx = lane_unsplit c range m t x ht hx (nothing_comes t x ht hx)
 
     none_first : (y : ℕ) → y < size c → replies_at m 0 y ≡ []
     none_first y hy = let some = range.some_stages in w.replies 0 y (omega arith) hy
 
-    element_is : (p : ℕ) → p < size c → element_at (reply_phase c m) p ≡ element_at m p
+    pub element_is : (p : ℕ) → p < size c → element_at (reply_phase c m) p ≡ element_at m p
     element_is p hp = element_stays c range m p hp (none_first (shuffled c.stages p) (turns_back c range p hp).entry_small)
 
-    silent_replied : IsSilent c (reply_phase c m)
+    pub silent_replied : IsSilent c (reply_phase c m)
     silent_replied =
         let some = range.some_stages in
         record {
@@ -34,7 +34,7 @@ module _ (c : Settings) (range : AreInRange c) (m : Machine) where
           modules = λ k hk. rw (memory_module_stays c range m k hk (nothing_comes (last_stage c) k (omega arith) hk)) (w.modules k hk);
         }
 
-    silent_acted : IsSilent c (memory_phase c m)
+    pub silent_acted : IsSilent c (memory_phase c m)
     unfolding memory_phase
     silent_acted = record { replies = w.replies; modules = λ k hk. rw (idle_stays c range m k hk (w.modules k hk)) (w.modules k hk) }
 

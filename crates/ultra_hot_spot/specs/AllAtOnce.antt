@@ -9,6 +9,7 @@ use Rattle.ultra_msg.specs.declared.Event.TheVariants.{Delivered, Served, Combin
 use Rattle.ultra_switch.specs.Arrive.{empty_lane}
 use Rattle.ultra_mem.specs.Serve.{IsIdle}
 use Rattle.ultra_isa.specs.declared.Instr.{Instr}
+use Rattle.ultra_isa.specs.declared.Instr.TheVariants.{Faa}
 use Rattle.ultra_model.specs.Machine.{Settings, Machine, size, lane_at, replies_at, module_at, element_at}
 use Rattle.ultra_model.specs.Phases.{after}
 use Rattle.ultra_model.specs.Ranges.{AreInRange}
@@ -55,3 +56,10 @@ HotCellLaw =
     (c : Settings) → AreInRange c → 1 ≤ c.wait_places → (program : List Instr) (n a : ℕ)
     → AreAllAt c a (after c program n)
     → (served : Request) × AreServedAtOnce c program n a served
+
+-- all processing elements do ask for one cell at once, for all settings in their ranges and every
+-- program that begins with a reference to cell 0: after the first cycle
+abbrev pub HotCellOccurs : Type 0
+HotCellOccurs =
+    (c : Settings) → AreInRange c → (rest : List Instr)
+    → AreAllAt c 0 (after c (Faa 1 0 0 ∷ rest) 1)
