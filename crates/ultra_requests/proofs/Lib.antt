@@ -5,5 +5,6 @@ pub mod Steps
 pub mod Found
 pub mod Tables
 pub mod Apart
+pub mod RowOrder
 pub mod RowLaws
 mod WorkedRuns

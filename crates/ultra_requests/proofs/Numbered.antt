@@ -44,7 +44,7 @@ ascending_more : (b e : ℕ) (is : List LoggedIssue) (x : LoggedIssue) → x.num
 ascending_more b e [] x n h = (omega (arith, n, h), omega (arith, n))
 ascending_more b e (i ∷ is) x n h = (h.0, ascending_more (i.number + 1) e is x n h.1)
 
-ascending_filter : (t : LoggedIssue → Bool) (b e : ℕ) (is : List LoggedIssue) → IsAscending b e is → IsAscending b e (filter t is)
+pub ascending_filter : (t : LoggedIssue → Bool) (b e : ℕ) (is : List LoggedIssue) → IsAscending b e is → IsAscending b e (filter t is)
 ascending_filter t b e [] h = h
 ascending_filter t b e (i ∷ is) h =
     let rest = ascending_filter t (i.number + 1) e is h.1 in

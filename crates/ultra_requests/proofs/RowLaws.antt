@@ -26,6 +26,7 @@ use Rattle.ultra_requests.proofs.Apart.{is_named, one_named}
 use Rattle.ultra_requests.proofs.Numbered.{found_by_number, in_filtered}
 use Rattle.ultra_requests.proofs.Steps.{in_step}
 use Rattle.ultra_requests.proofs.Found.{find_own}
+use Rattle.ultra_requests.proofs.RowOrder.{rows_ordered}
 use Rattle.ultra_requests.proofs.Tables.{FindIn, all_find}
 
 -- ---- members of lists
@@ -177,6 +178,7 @@ module _ (c : Settings) (range : AreInRange c) (program : List Instr) (n : ℕ) 
             let earlier = in_holds (IsEarlier c (after c program n) n) r.issue log.issues (serial_after c range program n).recorded.issues issue in
             let few = one_named p m log (size c) _ _ (in_step c range program n p earlier.element) in
             one_place (is_named p m) rows j k r s few at_j (same_name p m r refl refl) at_k (same_name p m s (sym pe) (sym number));
+        order = rows_ordered c range program n;
       }
 
 pub row_law : RequestLaw

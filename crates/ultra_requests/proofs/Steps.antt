@@ -48,7 +48,7 @@ module _ {X : Type 0} (show : Event → List X) (none : (e : Event) → IsNoDeli
   none_shown [] all = refl
   none_shown (e ∷ es) all = rw (none e all.0) (none_shown es all.1)
 
-no_answer : (n : ℕ) (is : List LoggedIssue) (e : Event) → IsNoDelivery e → answer_in n is e ≡ []
+pub no_answer : (n : ℕ) (is : List LoggedIssue) (e : Event) → IsNoDelivery e → answer_in n is e ≡ []
 no_answer n is (Delivered r) h = absurd h
 no_answer n is (Served k r v now) h = refl
 no_answer n is (Combined s x a old new f) h = refl

@@ -1,5 +1,5 @@
 -- the rows of the table are those of the log
-use Rattle.std.specs.Prelude.{◌≡◌, ℕ, List, true, Some, slice_get}
+use Rattle.std.specs.Prelude.{◌≡◌, ◌<◌, ◌⊎◌, ℕ, List, true, Option, Some, None, AllPairs, slice_get}
 use Rattle.ultra_isa.specs.declared.Instr.{Instr}
 use Rattle.ultra_model.specs.Machine.{Settings, size}
 use Rattle.ultra_model.specs.Ranges.{AreInRange}
@@ -9,6 +9,24 @@ use Rattle.ultra_serial_law.specs.Legal.{Has}
 use Rattle.ultra_serial_law.specs.Log.{Log}
 use Rattle.ultra_serial_law.specs.SerialList.{history}
 use Rattle.ultra_requests.specs.RequestTable.{Row, is_answer_to, request_rows}
+
+-- whether the first of two pairs of numbers is less: by the first numbers, and where these are the
+-- same, by the second ones
+abbrev pub IsLess : ℕ × ℕ → ℕ × ℕ → Type 0
+IsLess x y = (x.0 < y.0) ⊎ ((x.0 ≡ y.0) × (x.1 < y.1))
+
+-- whether an issue, with its answer if it has one, comes before another one. Those with an answer
+-- come first, by the cycle of the answer and then by processing element. Those without one follow,
+-- by processing element and then by number
+abbrev pub AreInOrder : LoggedIssue → Option LoggedAnswer → LoggedIssue → Option LoggedAnswer
+    → Type 0
+AreInOrder i (Some a) j (Some b) = IsLess (a.cycle, a.pe) (b.cycle, b.pe)
+AreInOrder i (Some a) j None = Unit {0}
+AreInOrder i None j (Some b) = ⊥
+AreInOrder i None j None = IsLess (i.pe, i.number) (j.pe, j.number)
+
+abbrev pub ComesBefore : Row → Row → Type 0
+ComesBefore r s = AreInOrder r.issue r.answer s.issue s.answer
 
 pub record AreRowsOf (l : Log) (rows : List Row) : Type 0 where
   -- the issue of each row is in the log
@@ -24,6 +42,8 @@ pub record AreRowsOf (l : Log) (rows : List Row) : Type 0 where
   -- no name occurs twice: each issue is in one row only, and so is each answer
   pub once : (j k : ℕ) (r s : Row) → slice_get rows j ≡ Some r → slice_get rows k ≡ Some s
       → r.issue.pe ≡ s.issue.pe → r.issue.number ≡ s.issue.number → j ≡ k
+  -- each row comes before all later ones
+  pub order : AllPairs ComesBefore rows
 
 -- for all settings in their ranges, every program and every number of cycles
 abbrev pub RequestLaw : Type 0
