@@ -1,5 +1,5 @@
 -- the open requests, each with the cycle of its issue, as events change them
-use Rattle.std.specs.Prelude.{◌≡◌, ℕ, ◌+◌, ◌-◌, ◌<◌, ◌≤◌, List, [], ◌∷◌, ◌++◌, map, true, false, ◌==◌, length, Option, Some, None, slice_set, slice_index_or}
+use Rattle.std.specs.Prelude.{◌≡◌, ℕ, ◌+◌, ◌-◌, ◌<◌, ◌≤◌, List, [], ◌∷◌, ◌++◌, map, true, false, ◌==◌, length, Option, Some, None, slice_set, slice_index_or, vec_capacity}
 use Rattle.ultra_msg.specs.declared.Request.{Request}
 use Rattle.ultra_msg.specs.declared.Event.{Event}
 use Rattle.ultra_msg.specs.declared.Event.TheVariants.{Delivered, Served, Combined, Issued}
@@ -11,6 +11,7 @@ use Rattle.ultra_model.specs.Phases.{after}
 use Rattle.ultra_model.specs.Places.{places}
 use Rattle.ultra_model.specs.Ranges.{AreInRange}
 use Rattle.ultra_latency.specs.declared.open.OpenRequest.{OpenRequest}
+use Rattle.ultra_latency.specs.declared.open.OpenTable.{OpenTable}
 use Rattle.ultra_latency.specs.Latency.{latest_issue, latencies_of}
 
 -- of one processing element: the first request for a cell, and the requests without it
@@ -87,6 +88,12 @@ module _ (c : Settings) (program : List Instr) (n : ℕ) where
   open_rows =
       places (size c)
       (λ p. open_requests p (element_at (after c program n) p).interface.opened)
+
+  -- a table of these rows. However long the run is, it has memory for a row of each processing
+  -- element, and for no more
+  pub record IsOpenTable (t : OpenTable) : Type 0 where
+    pub rows : t.rows.items ≡ open_rows
+    pub capacity : vec_capacity t.rows ≡ size c
 
   -- the row of a processing element has a request for a cell, which is the latest issue for it
   abbrev pub IsOpenIn : List (List OpenRequest) → ℕ → ℕ → Type 0

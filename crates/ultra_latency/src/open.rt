@@ -1,9 +1,9 @@
 //! The open requests of all processing elements, each as it was issued.
 
-ghost use Rattle.std.specs.Prelude.{◌≡◌, ℕ, ◌+◌, ◌^◌, ◌<◌, ◌≤◌, ◌++◌, ◌∷◌, [], List, length, IfOk, IfSome, option_to_list, ◌==◌};
+ghost use Rattle.std.specs.Prelude.{◌≡◌, ℕ, ◌+◌, ◌^◌, ◌<◌, ◌≤◌, ◌++◌, ◌∷◌, [], List, length, IfOk, IfSome, option_to_list, vec_capacity, ◌==◌};
 ghost use Rattle.std.specs.List.{position};
 ghost use Rattle.ultra_isa.specs.declared.Instr.{Instr};
-ghost use Rattle.ultra_latency.specs.Open.{answered_at, latencies_along, open_rows, request_for, row, rows_after, rows_with, since, without_request, HasPlace, HavePlaces};
+ghost use Rattle.ultra_latency.specs.Open.{answered_at, latencies_along, request_for, row, rows_after, rows_with, since, without_request, HasPlace, HavePlaces, IsOpenTable};
 ghost use Rattle.ultra_latency.specs.Summary.{AreSummedUp, AreSmall};
 
 use crate::summary::Latencies;
@@ -93,15 +93,15 @@ pub struct OpenTable {
 }
 
 impl OpenTable {
-    /// The table before the first cycle of a run: no request is open. An error says that memory was
-    /// refused.
+    /// The table before the first cycle of a run: no request is open. It takes memory for a row of
+    /// each processing element, and for no more. An error says that memory was refused.
     pub fn new(alloc: Global, config: &Config) -> Result<OpenTable, AllocError>
-        ensures { IfOk result (λ t. (program : List Instr) →
-            t.rows.items ≡ open_rows config.now program 0) }
+        ensures { IfOk result (λ t. (program : List Instr) → IsOpenTable config.now program 0 t) }
     {
-        let mut rows = Vec::new(alloc);
-        for _ in 0..config.net().size() {
-            rows.push(OpenRow::new())?;
+        let pes = config.net().size();
+        let mut rows = Vec::with_capacity(alloc, pes as usize)?;
+        for _ in 0..pes {
+            rows.push_reserved(OpenRow::new());
         }
         Ok(OpenTable { rows })
     }
@@ -123,7 +123,7 @@ impl OpenTable {
     }
 
     /// Updates the open requests by the events of a cycle, and adds the latencies of its deliveries
-    /// to `latencies`.
+    /// to `latencies`. The table doesn't grow.
     #[inline(always)]
     pub fn note_events(&mut self, events: &[Event], cycle: u32, latencies: &mut Latencies)
         requires places { HavePlaces cycle self.old.rows.items events.now }
@@ -134,6 +134,7 @@ impl OpenTable {
         ensures summary { (xs : List ℕ) → AreSummedUp xs latencies.old →
             AreSummedUp (xs ++ latencies_along cycle self.old.rows.items events.now) latencies.new }
         ensures small { AreSmall latencies.new }
+        ensures capacity { vec_capacity self.new.rows ≡ vec_capacity self.old.rows }
     {
         for event in events {
             let answered = self.note(event, cycle);
@@ -143,10 +144,12 @@ impl OpenTable {
     }
 
     /// Updates the open requests by an event of a cycle. Gives the request that a delivery answers.
+    /// The table doesn't grow.
     pub fn note(&mut self, event: &Event, cycle: u32) -> Option<OpenRequest>
         requires { HasPlace self.old.rows.items event.now }
         ensures rows { self.new.rows.items ≡ rows_with cycle self.old.rows.items event.now }
         ensures answered { result ≡ answered_at self.old.rows.items event.now }
+        ensures capacity { vec_capacity self.new.rows ≡ vec_capacity self.old.rows }
     {
         match *event {
             Event::Delivered(reply) => self.rows[reply.pe as usize].take(reply.cell),

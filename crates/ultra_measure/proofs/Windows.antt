@@ -15,7 +15,7 @@ use Rattle.ultra_model.specs.Phases.{after, cycle}
 use Rattle.ultra_model.specs.Trace.{by_number, cycle_count}
 use Rattle.ultra_block.specs.State.{BlocksState}
 use Rattle.ultra_latency.specs.declared.open.OpenTable.{OpenTable}
-use Rattle.ultra_latency.specs.Open.{open_rows}
+use Rattle.ultra_latency.specs.Open.{IsOpenTable}
 use Rattle.ultra_trace_alone.specs.BlocksAfter.{IsAfter}
 use Rattle.ultra_trace_alone.proofs.Count.{after_none, busy_none, next_after, quiet_after, first_lines}
 use Rattle.ultra_trace_text.proofs.Numbered.{writes_number}
@@ -41,8 +41,11 @@ module _ (c : Settings) (program : List Instr) where
     pub kept_of : (from to : ℕ) (w : Window) → IsKept b.config b.program from to w → IsKept c program from to w
     kept_of from to w kept = subst (λ p. IsKept c p from to w) a.instructions (subst (λ s. IsKept s b.program from to w) a.settings kept)
 
-    pub rows_in : (n : ℕ) → open_rows b.config b.program n ≡ open_rows c program n
-    rows_in n = ap (λ s. open_rows s b.program n) a.settings ∙ ap (λ p. open_rows c p n) a.instructions
+    pub table_in : (n : ℕ) (t : OpenTable) → IsOpenTable c program n t → IsOpenTable b.config b.program n t
+    table_in n t is = subst (λ s. IsOpenTable s b.program n t) (sym a.settings) (subst (λ p. IsOpenTable c p n t) (sym a.instructions) is)
+
+    pub table_of : (n : ℕ) (t : OpenTable) → IsOpenTable b.config b.program n t → IsOpenTable c program n t
+    table_of n t is = subst (λ p. IsOpenTable c p n t) a.instructions (subst (λ s. IsOpenTable s b.program n t) a.settings is)
 
     pub ending_in : (from to : ℕ) → ending b.config b.program from to ≡ ending c program from to
     ending_in from to = ap (λ s. ending s b.program from to) a.settings ∙ ap (λ p. ending c p from to) a.instructions
@@ -60,13 +63,13 @@ module _ (c : Settings) (program : List Instr) where
   after_cycle n b a = a.state ∙ sym (ap (λ s. after s b.program (n + 1)) a.settings ∙ ap (λ p. after c p (n + 1)) a.instructions)
 
   -- a cycle more
-  pub next_now : (n : ℕ) (old new : BlocksState) (before table : OpenTable) → AreAfter c program n old before → new ≡ record old { machine = cycle old.config old.program old.machine } → table.rows.items ≡ open_rows new.config new.program (n + 1) → AreAfter c program (n + 1) new table
-  next_now n old new before table now made rows =
+  pub next_now : (n : ℕ) (old new : BlocksState) (before table : OpenTable) → AreAfter c program n old before → new ≡ record old { machine = cycle old.config old.program old.machine } → IsOpenTable new.config new.program (n + 1) table → AreAfter c program (n + 1) new table
+  next_now n old new before table now made is =
       let state = next_after c program n old new now.state made in
       record {
         one = ap (λ (b : BlocksState). b.count) made ∙ now.one;
         state = state;
-        rows = rows ∙ rows_in (n + 1) new state (n + 1);
+        table = table_of (n + 1) new state (n + 1) table is;
       }
 
   -- ---- a cycle is noted
@@ -86,8 +89,8 @@ module _ (c : Settings) (program : List Instr) where
     pub kept_next : IsKept c program from n w → IsKept b.config b.program w.from n w
     kept_next kept = kept_in (n + 1) b state_next w.from n w (subst (λ f. IsKept c program f n w) (sym start) kept)
 
-    pub rows_next : before.rows.items ≡ open_rows b.config b.program n
-    rows_next = now.rows ∙ sym (rows_in (n + 1) b state_next n)
+    pub table_next : IsOpenTable b.config b.program n before
+    table_next = table_in (n + 1) b state_next n before now.table
 
     pub kept_done : (x : Window) → IsKept b.config b.program w.from (n + 1) x → IsKept c program from (n + 1) x
     kept_done x noted = subst (λ f. IsKept c program f (n + 1) x) start (kept_of (n + 1) b state_next w.from (n + 1) x noted)
@@ -201,15 +204,15 @@ module _ (c : Settings) (program : List Instr) (b : BlocksState) (partition : Li
   settings_are : b.config ≡ c
   settings_are = ap (λ (x : BlocksState). x.config) is
 
-  pub fresh_are : (table : OpenTable) → ((p : List Instr) → table.rows.items ≡ open_rows c p 0) → AreAfter b.config b.program 0 b table
-  fresh_are table rows = record {
+  pub fresh_are : (table : OpenTable) → ((p : List Instr) → IsOpenTable c p 0 table) → AreAfter b.config b.program 0 b table
+  fresh_are table empty = record {
     one = ap (λ (x : BlocksState). x.count) is;
     state = record {
       settings = refl;
       instructions = refl;
       state = ap (λ (x : BlocksState). x.machine) is ∙ ap start (sym settings_are) ∙ sym (after_none b.config b.program);
     };
-    rows = rows b.program ∙ ap (λ s. open_rows s b.program 0) (sym settings_are);
+    table = subst (λ s. IsOpenTable s b.program 0 table) (sym settings_are) (empty b.program);
   }
 
   pub measured_is : (layout : Layout) → measured b.config b.program layout ≡ measured c program layout

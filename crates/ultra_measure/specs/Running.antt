@@ -6,7 +6,7 @@ use Rattle.ultra_model.specs.Phases.{after}
 use Rattle.ultra_model.specs.Trace.{cycle_count}
 use Rattle.ultra_block.specs.State.{BlocksState}
 use Rattle.ultra_latency.specs.declared.open.OpenTable.{OpenTable}
-use Rattle.ultra_latency.specs.Open.{open_rows}
+use Rattle.ultra_latency.specs.Open.{IsOpenTable}
 use Rattle.ultra_trace_alone.specs.BlocksAfter.{IsAfter}
 use Rattle.ultra_measure.specs.declared.measuring.WindowRun.{WindowRun}
 use Rattle.ultra_measure.specs.Columns.{ending}
@@ -14,11 +14,11 @@ use Rattle.ultra_measure.specs.Kept.{IsKept}
 use Rattle.ultra_measure.specs.Rows.{ended_if}
 
 module _ (c : Settings) (program : List Instr) where
-  -- a machine in one block, and the open requests, after n cycles
+  -- a machine in one block, and the table of the open requests, after n cycles
   pub record AreAfter (n : ℕ) (b : BlocksState) (t : OpenTable) : Type 0 where
     pub one : b.count ≡ 1
     pub state : IsAfter c program n b
-    pub rows : t.rows.items ≡ open_rows c program n
+    pub table : IsOpenTable c program n t
 
   -- and the run goes on
   pub record IsOn (n : ℕ) (b : BlocksState) (t : OpenTable) : Type 0 where

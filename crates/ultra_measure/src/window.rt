@@ -3,7 +3,7 @@
 ghost use Rattle.std.specs.Prelude.{◌≡◌, ℕ, List, ◌+◌, ◌^◌, ◌≤◌};
 ghost use Rattle.ultra_isa.specs.declared.Instr.{Instr as InstrOf};
 ghost use Rattle.ultra_model.specs.Machine.{Settings};
-ghost use Rattle.ultra_latency.specs.Open.{open_rows};
+ghost use Rattle.ultra_latency.specs.Open.{IsOpenTable};
 ghost use Rattle.ultra_measure.specs.Kept.{AreLatencies, IsAfterCycle, IsKept};
 ghost use Rattle.ultra_measure.specs.Nets.{IsNetOf};
 
@@ -77,13 +77,11 @@ impl Window {
         requires order { self.old.from ≤ cycle }
         requires early { cycle ≤ 2 ^ 20 }
         requires kept { IsKept blocks.now.config blocks.now.program self.old.from cycle self.old }
-        requires rows { table.old.rows.items ≡
-            open_rows blocks.now.config blocks.now.program cycle }
+        requires table { IsOpenTable blocks.now.config blocks.now.program cycle table.old }
         ensures from { self.new.from ≡ self.old.from }
         ensures kept { IsKept blocks.now.config blocks.now.program self.old.from (cycle + 1)
             self.new }
-        ensures rows { table.new.rows.items ≡
-            open_rows blocks.now.config blocks.now.program (cycle + 1) }
+        ensures table { IsOpenTable blocks.now.config blocks.now.program (cycle + 1) table.new }
     {
         // for the prover: how many events a cycle has
         law_of_few_events(blocks.config());
@@ -120,11 +118,10 @@ fn note_latencies(
     requires order { from ≤ cycle }
     requires early { cycle ≤ 2 ^ 20 }
     requires kept { AreLatencies blocks.now.config blocks.now.program from cycle latencies.old }
-    requires rows { table.old.rows.items ≡ open_rows blocks.now.config blocks.now.program cycle }
+    requires table { IsOpenTable blocks.now.config blocks.now.program cycle table.old }
     ensures kept { AreLatencies blocks.now.config blocks.now.program from (cycle + 1)
         latencies.new }
-    ensures rows { table.new.rows.items ≡
-        open_rows blocks.now.config blocks.now.program (cycle + 1) }
+    ensures table { IsOpenTable blocks.now.config blocks.now.program (cycle + 1) table.new }
 {
     // for the prover: what the events make of the open requests, and the latencies that they show
     law_of_open_requests(blocks.config());

@@ -1,6 +1,6 @@
 //! What is written of the events of a cycle, as the open requests change with them.
 
-ghost use Rattle.std.specs.Prelude.{◌≡◌, ◌++◌};
+ghost use Rattle.std.specs.Prelude.{◌≡◌, ◌++◌, vec_capacity};
 ghost use Rattle.std.specs.List.{flat_map};
 ghost use Rattle.ultra_io.specs.TextBuffer.{Writes};
 ghost use Rattle.ultra_latency.specs.Open.{rows_after, HavePlaces};
@@ -24,6 +24,7 @@ pub(crate) fn put_event_lines<S: Sink>(
     requires places { HavePlaces cycle table.old.rows.items events.now }
     requires rows { HaveRows cycle table.old.rows.items events.now }
     ensures rows { table.new.rows.items ≡ rows_after cycle table.old.rows.items events.now }
+    ensures capacity { vec_capacity table.new.rows ≡ vec_capacity table.old.rows }
     ensures writes { Writes S.taken S.failures
         (along event_line_at cycle table.old.rows.items events.now) buffer.old buffer.new }
 {
@@ -36,7 +37,8 @@ pub(crate) fn put_event_lines<S: Sink>(
 /// Updates the open requests by the events of a cycle, of which nothing is written.
 pub(crate) fn note_unwritten_events(table: &mut OpenTable, events: &[Event], cycle: u32)
     requires { HavePlaces cycle table.old.rows.items events.now }
-    ensures { table.new.rows.items ≡ rows_after cycle table.old.rows.items events.now }
+    ensures rows { table.new.rows.items ≡ rows_after cycle table.old.rows.items events.now }
+    ensures capacity { vec_capacity table.new.rows ≡ vec_capacity table.old.rows }
 {
     for event in events {
         table.note(event, cycle);
@@ -63,6 +65,7 @@ pub(crate) fn put_answers<S: Sink>(
 )
     requires places { HavePlaces cycle table.old.rows.items events.now }
     ensures rows { table.new.rows.items ≡ rows_after cycle table.old.rows.items events.now }
+    ensures capacity { vec_capacity table.new.rows ≡ vec_capacity table.old.rows }
     ensures writes { Writes S.taken S.failures
         (along row_at cycle table.old.rows.items events.now) buffer.old buffer.new }
 {

@@ -3,7 +3,7 @@
 ghost use Rattle.std.specs.Prelude.{◌≡◌, ◌≢◌, ◌+◌, ◌<◌, [], ◌++◌, OnOk, OnErr, IfErr};
 ghost use Rattle.ultra_msg.specs.Bytes.{TakesPrefix};
 ghost use Rattle.ultra_io.specs.TextBuffer.{Writes};
-ghost use Rattle.ultra_latency.specs.Open.{open_rows};
+ghost use Rattle.ultra_latency.specs.Open.{IsOpenTable};
 ghost use Rattle.ultra_trace_alone.specs.declared.fault.RunFault.TheVariants.{NoMemory, NoThread};
 ghost use Rattle.ultra_trace_alone.specs.BlocksAfter.{IsAfter};
 ghost use Rattle.ultra_trace_alone.specs.Faults.{sink_faults};
@@ -67,7 +67,7 @@ impl RunText for EventText {
 
     ghost takes = { λ count. count ≡ 1 };
 
-    ghost is_ready = { λ t c program n. t.table.rows.items ≡ open_rows c program n };
+    ghost is_ready = { λ t c program n. IsOpenTable c program n t.table };
 
     fn put_opening<S: Sink>(&self, _buffer: &mut TextBuffer<'_, S>) {}
 
@@ -93,9 +93,8 @@ fn put_cycle<S: Sink>(
 )
     requires one { blocks.now.count ≡ 1 }
     requires made { IsAfter blocks.now.config blocks.now.program (cycle + 1) blocks.now }
-    requires rows { table.old.rows.items ≡ open_rows blocks.now.config blocks.now.program cycle }
-    ensures rows { table.new.rows.items ≡
-        open_rows blocks.now.config blocks.now.program (cycle + 1) }
+    requires table { IsOpenTable blocks.now.config blocks.now.program cycle table.old }
+    ensures table { IsOpenTable blocks.now.config blocks.now.program (cycle + 1) table.new }
     ensures writes { Writes S.taken S.failures
         (lines_of_cycle blocks.now.config blocks.now.program cycle) buffer.old buffer.new }
 {

@@ -3,7 +3,7 @@
 ghost use Rattle.std.specs.Prelude.{◌≡◌, ◌≢◌, ◌+◌, ◌<◌, ◌++◌, OnOk, OnErr, IfErr};
 ghost use Rattle.ultra_msg.specs.Bytes.{TakesPrefix};
 ghost use Rattle.ultra_io.specs.TextBuffer.{Writes};
-ghost use Rattle.ultra_latency.specs.Open.{open_rows};
+ghost use Rattle.ultra_latency.specs.Open.{IsOpenTable};
 ghost use Rattle.ultra_trace_alone.specs.declared.fault.RunFault.TheVariants.{NoMemory, NoThread};
 ghost use Rattle.ultra_trace_alone.specs.Faults.{sink_faults};
 ghost use Rattle.ultra_requests.specs.RequestTable.{header_line, requests_of};
@@ -64,7 +64,7 @@ impl RunText for RequestText {
 
     ghost takes = { λ count. count ≡ 1 };
 
-    ghost is_ready = { λ t c program n. t.table.rows.items ≡ open_rows c program n };
+    ghost is_ready = { λ t c program n. IsOpenTable c program n t.table };
 
     fn put_opening<S: Sink>(&self, buffer: &mut TextBuffer<'_, S>) {
         put_header(buffer);

@@ -5,7 +5,7 @@ use Rattle.ultra_trace_alone.proofs.Count.{done_after}
 use Rattle.ultra_measure.specs.Rows.{ended_if}
 use Rattle.ultra_measure.specs.Running.{IsWindowRun}
 use Rattle.ultra_measure.proofs.Ends.{count_beyond, ending_is, over_is, on_is, not_ended, none_is, not_none, no_end}
-use Rattle.ultra_measure.proofs.Windows.{one_next, net_next, run_next, kept_next, rows_next, next_now, kept_done, quiet_next}
+use Rattle.ultra_measure.proofs.Windows.{one_next, net_next, run_next, kept_next, table_next, next_now, kept_done, quiet_next}
 use Rattle.ultra_measure.proofs.measuring.run_window_sized.Goals as goal
 
 pub loop-cycle-init : goal.loop-cycle-init
@@ -41,7 +41,7 @@ note_cycle-requires g c =
       order = omega (arith, now.from, c.loop-cycle.auto.cycle);
       early = omega (arith, cycles, now.within, c.cycles-most.ensures.range.1);
       kept = kept_next first.config first.program n from c.loop-cycle.blocks c.cycle.new.self c.loop-cycle.table c.loop-cycle.window now.now c.cycle.ensures now.from now.kept;
-      rows = rows_next first.config first.program n from c.loop-cycle.blocks c.cycle.new.self c.loop-cycle.table c.loop-cycle.window now.now c.cycle.ensures now.from;
+      table = table_next first.config first.program n from c.loop-cycle.blocks c.cycle.new.self c.loop-cycle.table c.loop-cycle.window now.now c.cycle.ensures now.from;
     }
 
 pub returns-then-is_some : goal.returns-then-is_some
@@ -64,7 +64,7 @@ returns-then-is_some g c =
     let some = sym c.if-is_some.ensures in
     let over = over_is s p from n inv.busy inv.within (is_quiet b.machine) (n + 1 == c.cycles-most.result) quiet limit (subst P ended some) in
     record {
-      now = next_now s p n old b c.loop-cycle.table c.note_cycle.new.table inv.now made noted.rows;
+      now = next_now s p n old b c.loop-cycle.table c.note_cycle.new.table inv.now made noted.table;
       begins = noted.from ∙ inv.from;
       further = omega (arith, c.loop-cycle.auto.cycle);
       to = omega (arith, over, c.loop-cycle-test.true, c.min.ensures);
@@ -92,7 +92,7 @@ loop-cycle-preserved g c =
     let none = none_is _ (sym c.if-is_some.ensures) in
     let on = on_is s p from n inv.busy inv.within (is_quiet b.machine) (n + 1 == c.cycles-most.result) quiet limit (sym c.end_of-ended.ensures ∙ none) in
     record {
-      now = next_now s p n old b c.loop-cycle.table c.note_cycle.new.table inv.now made noted.rows;
+      now = next_now s p n old b c.loop-cycle.table c.note_cycle.new.table inv.now made noted.table;
       busy = on.0;
       within = on.1;
       from = noted.from ∙ inv.from;

@@ -7,7 +7,7 @@ pub note_events-requires-clause-places : goal.note_events-requires-clause-places
 note_events-requires-clause-places c =
     let b = c.args.blocks.now in
     let law = rw c.config.ensures at (c.law_of_open_requests.ensures b.program c.args.cycle) in
-    places_here b.config b.program c.args.cycle law _ (c.events_of_one.ensures ∙ ap (λ (m : Machine). m.events) c.requires.run) _ c.requires.rows
+    places_here b.config b.program c.args.cycle law _ (c.events_of_one.ensures ∙ ap (λ (m : Machine). m.events) c.requires.run) _ c.requires.table.rows
 
 pub note_events-requires-clause-room : goal.note_events-requires-clause-room
 note_events-requires-clause-room c =
@@ -19,11 +19,14 @@ pub returns-clause-kept : goal.returns-clause-kept
 returns-clause-kept c =
     let b = c.args.blocks.now in
     let law = rw c.config.ensures at (c.law_of_open_requests.ensures b.program c.args.cycle) in
-    let shown = shown_here b.config b.program c.args.cycle law _ (c.events_of_one.ensures ∙ ap (λ (m : Machine). m.events) c.requires.run) _ c.requires.rows in
+    let shown = shown_here b.config b.program c.args.cycle law _ (c.events_of_one.ensures ∙ ap (λ (m : Machine). m.events) c.requires.run) _ c.requires.table.rows in
     latencies_go_on b.config b.program c.args.from c.args.cycle c.requires.order c.args.latencies.now _ _ c.requires.kept shown law.few c.note_events.ensures.summary c.note_events.ensures.small
 
-pub returns-clause-rows : goal.returns-clause-rows
-returns-clause-rows c =
+pub returns-clause-table : goal.returns-clause-table
+returns-clause-table c =
     let b = c.args.blocks.now in
     let law = rw c.config.ensures at (c.law_of_open_requests.ensures b.program c.args.cycle) in
-    c.note_events.ensures.rows ∙ rows_here b.config b.program c.args.cycle law _ (c.events_of_one.ensures ∙ ap (λ (m : Machine). m.events) c.requires.run) _ c.requires.rows
+    record {
+      rows = c.note_events.ensures.rows ∙ rows_here b.config b.program c.args.cycle law _ (c.events_of_one.ensures ∙ ap (λ (m : Machine). m.events) c.requires.run) _ c.requires.table.rows;
+      capacity = c.note_events.ensures.capacity ∙ c.requires.table.capacity;
+    }

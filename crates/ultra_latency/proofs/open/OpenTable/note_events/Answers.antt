@@ -14,6 +14,7 @@ loop-event-init c = record {
   summary = ([], refl, λ xs are. same_summed_up c.args.latencies.now xs are);
   small = c.requires.small;
   few = omega arith;
+  capacity = refl;
 }
 
 pub note-answered-requires : goal.note-answered-requires
@@ -43,4 +44,5 @@ loop-event-preserved c =
       );
       small = one.small;
       few = omega (arith, are.few, one.one);
+      capacity = c.note-answered.ensures.capacity ∙ are.capacity;
     }

@@ -1,4 +1,4 @@
-use Rattle.std.proofs.Common.{ℕ, List, ◌≡◌, ◌+◌, ◌≤◌, ◌++◌, drop}
+use Rattle.std.proofs.Common.{ℕ, List, ◌≡◌, ◌+◌, ◌≤◌, ◌++◌, drop, vec_capacity}
 use Rattle.ultra_latency.specs.Open.{rows_after, latencies_along, HavePlaces}
 use Rattle.ultra_latency.specs.Summary.{AreSummedUp, AreSmall}
 use Rattle.ultra_latency.proofs.open.OpenTable.note_events.Given as goal
@@ -14,4 +14,5 @@ invariant-loop-event l =
       summary : (done : List ℕ) × (latencies_along l.cycle first l.events ≡ done ++ latencies_along l.cycle now rest) × ((xs : List ℕ) → AreSummedUp xs l.initial.latencies → AreSummedUp (xs ++ done) l.latencies);
       small : AreSmall l.latencies;
       few : l.latencies.count ≤ l.initial.latencies.count + l.event-index;
+      capacity : vec_capacity l.self.rows ≡ vec_capacity l.initial.self.rows;
     }

@@ -38,5 +38,5 @@ returns-clause-kept g c =
 pub returns-clause-from : goal.returns-clause-from
 returns-clause-from g c = grind (arith, common_steps)
 
-pub returns-clause-rows : goal.returns-clause-rows
-returns-clause-rows g c = grind (arith, common_steps)
+pub returns-clause-table : goal.returns-clause-table
+returns-clause-table g c = c.note_latencies.ensures.table

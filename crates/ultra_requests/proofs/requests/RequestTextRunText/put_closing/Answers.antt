@@ -10,7 +10,7 @@ put_waiting-requires g c =
     let b = c.args.blocks.now in
     let range = rw c.config.ensures at c.initial-valid.ensures.valid.range in
     let pes : c.size.result ≡ size b.config = c.size.ensures.value ∙ ap (λ d. 2 ^ d) (c.net.ensures ∙ ap (λ (t : Settings). t.stages) c.config-2.ensures) in
-    let rows = ap length c.requires.ready ∙ length_rows b.config range b.program (cycle_count b.config b.program) in
+    let rows = ap length c.requires.ready.rows ∙ length_rows b.config range b.program (cycle_count b.config b.program) in
     omega (arith, pes, rows)
 
 pub returns : goal.returns
@@ -18,4 +18,4 @@ returns g c =
     let b = c.args.blocks.now in
     let range = rw c.config.ensures at c.initial-valid.ensures.valid.range in
     let pes : c.size.result ≡ size b.config = c.size.ensures.value ∙ ap (λ d. 2 ^ d) (c.net.ensures ∙ ap (λ (t : Settings). t.stages) c.config-2.ensures) in
-    rw (pes, c.requires.ready, end_is b.config range b.program) at c.put_waiting.ensures
+    rw (pes, c.requires.ready.rows, end_is b.config range b.program) at c.put_waiting.ensures

@@ -8,4 +8,4 @@ returns-clause-writes g c =
     let b = c.args.blocks.now in
     let range = rw c.config.ensures at c.initial-valid.ensures.valid.range in
     let law = rw c.config-2.ensures at (c.law_of_open_requests.ensures b.program c.args.cycle) in
-    rw (rows_here b.config range b.program c.args.cycle law _ (c.events_of_one.ensures ∙ ap (λ (m : Machine). m.events) c.requires.made.state) _ c.requires.ready) at c.put_answers.ensures.writes
+    rw (rows_here b.config range b.program c.args.cycle law _ (c.events_of_one.ensures ∙ ap (λ (m : Machine). m.events) c.requires.made.state) _ c.requires.ready.rows) at c.put_answers.ensures.writes
