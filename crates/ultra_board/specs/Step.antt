@@ -1,14 +1,15 @@
 -- what each kind of atomic step does to the view of the seat that steps, which is v before it and w
 -- after it. It finds n in its word. All of it is this project's profile
 use Rattle.std.specs.Prelude.{◌≡◌, ℕ, ◌+◌, ◌-◌, ◌<◌, ◌≤◌, [], ◌∷◌, ◌++◌, true, length, Contains}
-use Rattle.atomic_table.specs.Table.{Me}
+use Rattle.atomic_table.specs.Table.{Me, Step}
 use Rattle.ultra_board.specs.declared.TheConstants.{MOST_SEATS}
 use Rattle.ultra_board.specs.declared.rule.View.{View}
 use Rattle.ultra_board.specs.View.{times}
 
--- a step has this effect on the views, and takes or gives no slot
-abbrev pub HasEffect : (View → ℕ → View → Type 0) → Me ℕ View → ℕ → Me ℕ View → Type 0
-HasEffect fact m n w = fact m.0 n w.0 × (w.1 ≡ m.1)
+-- a step on this word has this effect on the views, and takes or gives no slot
+abbrev pub HasEffect : ℕ → (View → ℕ → View → Type 0)
+    → Step ℕ → Me ℕ View → ℕ → Me ℕ View → Type 0
+HasEffect word fact s m n w = (s.word ≡ word) × fact m.0 n w.0 × (w.1 ≡ m.1)
 
 -- add to claim, which is counted: an old value below the limit is drawn, which wasn't drawn or
 -- finished before; else the seat is spent

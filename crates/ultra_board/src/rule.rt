@@ -1,10 +1,11 @@
 //! The rule of a board's table: what a seat knows, and what the seat that steps learns from each
-//! kind of atomic step.
+//! kind of atomic step. Each kind names its word.
 //!
 //! A table's rule is a fact over its words and the views of all seats, which every step has to
 //! keep. So it holds between any two steps, however the threads take turns.
 
 ghost use Rattle.std.specs.Prelude.{ℕ};
+ghost use Rattle.ultra_board.specs.declared.words.TheConstants.{CLAIM, DONE, PASSES};
 
 use atomic_table::{Join, Play, Split, TableRule};
 use std::collections::LinkedList;
@@ -75,7 +76,7 @@ pub struct AddToClaim;
 impl Play<u64, View> for AddToClaim {
     ghost use Rattle.ultra_board.specs.Step.{HasEffect, AddsToClaim};
 
-    ghost then = { λ _ m n w. HasEffect AddsToClaim m n w };
+    ghost then = { HasEffect CLAIM AddsToClaim };
 }
 
 /// A number that a proof picks.
@@ -95,7 +96,7 @@ pub struct AddToDone<N: Number> {
 impl<N: Number> Play<u64, View> for AddToDone<N> {
     ghost use Rattle.ultra_board.specs.Step.{HasEffect, AddsToDone};
 
-    ghost then = { λ _ m n w. HasEffect (AddsToDone N.number) m n w };
+    ghost then = { HasEffect DONE (AddsToDone N.number) };
 }
 
 /// A load of done.
@@ -104,7 +105,7 @@ pub struct LoadOfDone;
 impl Play<u64, View> for LoadOfDone {
     ghost use Rattle.ultra_board.specs.Step.{HasEffect, LoadsDone};
 
-    ghost then = { λ _ m n w. HasEffect LoadsDone m n w };
+    ghost then = { HasEffect DONE LoadsDone };
 }
 
 /// A load of passes.
@@ -113,7 +114,7 @@ pub struct LoadOfPasses;
 impl Play<u64, View> for LoadOfPasses {
     ghost use Rattle.ultra_board.specs.Step.{HasEffect, LoadsPasses};
 
-    ghost then = { λ _ m n w. HasEffect LoadsPasses m n w };
+    ghost then = { HasEffect PASSES LoadsPasses };
 }
 
 /// An add to passes: it takes a pass, or begins a try that has to be undone.
@@ -122,7 +123,7 @@ pub struct AddToPasses;
 impl Play<u64, View> for AddToPasses {
     ghost use Rattle.ultra_board.specs.Step.{HasEffect, AddsToPasses};
 
-    ghost then = { λ _ m n w. HasEffect AddsToPasses m n w };
+    ghost then = { HasEffect PASSES AddsToPasses };
 }
 
 /// A subtraction from passes: it undoes a try, or gives a pass back.
@@ -131,7 +132,7 @@ pub struct SubtractFromPasses;
 impl Play<u64, View> for SubtractFromPasses {
     ghost use Rattle.ultra_board.specs.Step.{HasEffect, SubtractsFromPasses};
 
-    ghost then = { λ _ m n w. HasEffect (λ v _ u. SubtractsFromPasses v u) m n w };
+    ghost then = { HasEffect PASSES (λ v _ w. SubtractsFromPasses v w) };
 }
 
 /// A load of claim that looks at no value. It shows what the rule says of the seat's own view.
@@ -140,7 +141,7 @@ pub struct LoadOfClaim;
 impl Play<u64, View> for LoadOfClaim {
     ghost use Rattle.ultra_board.specs.Step.{HasEffect, LoadsClaim};
 
-    ghost then = { λ _ m n w. HasEffect (λ v _ u. LoadsClaim v u) m n w };
+    ghost then = { HasEffect CLAIM (λ v _ w. LoadsClaim v w) };
 }
 
 /// How a seat is split: the second seat has one place and nothing else.
