@@ -1,5 +1,5 @@
 -- the threads of a sweep, and what they bring back; this project's profile
-use Rattle.std.specs.Prelude.{◌≡◌, ℕ, ◌+◌, ◌-◌, min, if◌then◌else◌, List, [], All, true, length}
+use Rattle.std.specs.Prelude.{◌≡◌, ℕ, ◌+◌, ◌-◌, min, if◌then◌else◌, List, [], All, true, length, Result, Ok, Err}
 use Rattle.ultra_board.specs.Seat.{SeatState, BoardState}
 use Rattle.ultra_board.specs.declared.rule.View.{View}
 use Rattle.ultra_args.specs.declared.sweep_output.SweepOutput.{SweepOutput}
@@ -38,6 +38,14 @@ pub record AreWholeResults (output : SweepOutput) (board : BoardState) (jobs : L
     (places : ℕ) (seat_results : SeatResults) : Type 0 where
   pub part : AreSeatResults output board jobs places seat_results
   pub spent : seat_results.seat.view.spent ≡ true
+
+-- what a thread of one place gives back: results, and no job is left to draw; or its seat as it was,
+-- where memory for results was refused
+abbrev pub HasTakenPart : SweepOutput → BoardState → List Job → Result SeatResults SeatState
+    → Type 0
+HasTakenPart output board jobs (Ok seat_results) =
+    AreWholeResults output board jobs 1 seat_results
+HasTakenPart output board jobs (Err seat) = IsFresh board 1 seat
 
 -- the board is one of these jobs
 abbrev pub IsSweepTask : SweepTask → Type 0

@@ -7,6 +7,7 @@ ghost use Rattle.ultra_sweep_command.specs.Output.{job_output};
 ghost use Rattle.ultra_sweep_command.specs.SeatResults.{threads_of, IsSweepTask, IsFresh, AreWholeResults};
 ghost use Rattle.ultra_inputs.specs.Shown.{stream};
 ghost use Rattle.ultra_sweep_command.specs.Shown.{HasShown, IsProgressShown};
+ghost use Rattle.ultra_sweep_command.specs.declared.fault.SweepFault.TheVariants.{NoThread};
 
 use crate::SweepPlan;
 use crate::fault::SweepFault;
@@ -15,7 +16,7 @@ use crate::seat_results::SeatResults;
 use crate::signal::DoneSignal;
 use crate::sweep_threads::SweepThreads;
 use crate::task::SweepTask;
-use std::alloc::Global;
+use std::alloc::{AllocError, Global};
 use std::sync::Wait;
 use std::thread::{self, Scope, Threads};
 use ultra_board::{Board, MOST_SEATS, Seat};
@@ -39,7 +40,7 @@ impl SweepPlan {
 
 /// The board of `count` jobs, with a pass for each job that may run at once, and its seat, which
 /// has a place for the caller and for each thread. An error says that memory was refused.
-fn open_board(alloc: Global, count: u64, plan: &SweepPlan) -> Result<(Board, Seat), SweepFault>
+fn open_board(alloc: Global, count: u64, plan: &SweepPlan) -> Result<(Board, Seat), AllocError>
     ensures jobs { IfOk result (λ b. b.0.limits.limit ≡ count) }
     ensures at_once { IfOk result (λ b. b.0.limits.bound ≡ plan.now.at_once) }
     ensures places { IfOk result (λ b. b.0.limits.seats ≡ threads_of plan.now + 1) }
@@ -48,12 +49,13 @@ fn open_board(alloc: Global, count: u64, plan: &SweepPlan) -> Result<(Board, Sea
     let at_once = plan.at_once.count() as u64;
     match Board::open(alloc, count, at_once, plan.threads() as u64 + 1) {
         Ok(opened) => Ok(opened),
-        Err(_) => Err(SweepFault::NoMemory),
+        Err(_) => Err(AllocError),
     }
 }
 
 /// Runs the jobs by threads of the host, and gives their texts in order. `NoThread` says that a
-/// thread couldn't be started, and `NoMemory` that memory was refused; all threads have ended then.
+/// thread couldn't be started, which one worker without progress doesn't need. `NoMemory` says that
+/// memory was refused. All threads have ended then.
 pub(crate) fn run_jobs<R: Threads + Wait + Sync, E: Sink>(
     rt: &R,
     alloc: Global,
@@ -65,6 +67,7 @@ pub(crate) fn run_jobs<R: Threads + Wait + Sync, E: Sink>(
     ensures all_shown { OnOk result (IsProgressShown plan.now.progress (length jobs.now)
         (length jobs.now) (stream (E.taken err.old) (E.failures err.old))
         (stream (E.taken err.new) (E.failures err.new))) }
+    ensures no_thread { IfErr result (λ f. f ≡ NoThread → 0 < threads_of plan.now) }
     ensures some_shown { OnErr result ((last : ℕ) × IsProgressShown plan.now.progress
         (length jobs.now) last (stream (E.taken err.old) (E.failures err.old))
         (stream (E.taken err.new) (E.failures err.new))) }
@@ -105,6 +108,7 @@ fn run_together<R: Threads + Wait + Sync, E: Sink>(
     ensures seat_results { IfOk result.0
         (AreWholeResults task.entry.output.now task.entry.board.now task.entry.jobs.now
         (threads_of plan.now + 1)) }
+    ensures no_thread { IfErr result.0 (λ f. f ≡ NoThread → 0 < threads_of plan.now) }
     ensures count { result.1.count ≡ length task.entry.jobs.now }
     ensures shown { HasShown result.1 (stream (E.taken err.old) (E.failures err.old))
         (stream (E.taken err.new) (E.failures err.new)) }
@@ -126,6 +130,8 @@ fn run_together<R: Threads + Wait + Sync, E: Sink>(
             ensures seat_results { IfOk result.0
                 (AreWholeResults output.entry.now board.entry.now jobs.entry.now
                 (threads_of plan.entry.now + 1)) }
+            ensures no_thread { IfErr result.0
+                (λ f. f ≡ NoThread → 0 < threads_of plan.entry.now) }
             ensures count { result.1.count ≡ length jobs.entry.now }
             ensures same_err { result.2.ghost_name ≡ err.entry.ghost_name }
             ensures shown { HasShown result.1
@@ -165,6 +171,7 @@ fn run_and_watch<'a, S, R: Threads + Wait + Sync, E: Sink>(
     ensures seat_results { IfOk result
         (AreWholeResults task.entry.output.now task.entry.board.now task.entry.jobs.now
         (threads_of plan.now + 1)) }
+    ensures no_thread { IfErr result (λ f. f ≡ NoThread → 0 < threads_of plan.now) }
     ensures count { meter.new.count ≡ meter.old.count }
     ensures shown { (start : SinkState) →
         HasShown meter.old start (stream (E.taken err.old) (E.failures err.old)) →

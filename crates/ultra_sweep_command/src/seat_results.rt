@@ -3,9 +3,10 @@
 ghost use Rattle.std.specs.Prelude.{◌≡◌, ℕ, ◌+◌, List, IfOk};
 ghost use Rattle.ultra_args.specs.declared.sweep_output.SweepOutput.{SweepOutput};
 ghost use Rattle.ultra_sweep.specs.declared.job.Job.{Job};
-ghost use Rattle.ultra_sweep_command.specs.SeatResults.{AreSeatResults, AreWholeResults};
+ghost use Rattle.ultra_board.specs.Seat.{BoardState};
+ghost use Rattle.ultra_sweep_command.specs.SeatResults.{AreSeatResults, AreWholeResults, HasTakenPart};
 
-use std::alloc::AllocError;
+use std::alloc::{AllocError, Global};
 use ultra_board::{Board, Seat};
 use ultra_sweep::JobResult;
 
@@ -16,6 +17,20 @@ pub struct SeatResults {
     pub seat: Seat,
     /// A result for each job drawn.
     pub results: Vec<JobResult>,
+}
+
+/// The results that a thread gives back. One that gives its seat back alone has none.
+pub(crate) fn results_given(alloc: Global, given: Result<SeatResults, Seat>) -> SeatResults
+    ensures { (output : SweepOutput) (board : BoardState) (jobs : List Job) →
+        HasTakenPart output board jobs given → AreSeatResults output board jobs 1 result }
+{
+    match given {
+        Ok(seat_results) => seat_results,
+        Err(seat) => SeatResults {
+            seat,
+            results: Vec::new(alloc),
+        },
+    }
 }
 
 /// The results of two seats as those of one, unless memory is refused. The first seat is spent.

@@ -2,7 +2,7 @@
 
 ghost use Rattle.std.specs.Prelude.{◌≡◌, ◌≤◌, ◌<◌, ℕ, ◌+◌, min, max, length, IfOk, IfErr, All};
 ghost use Rattle.ultra_io.specs.Account.{SinkState};
-ghost use Rattle.ultra_sweep_command.specs.SeatResults.{IsFresh, AreSeatResults, AreWholeResults, IsSweepTask, AreSweepThreads, HasRead};
+ghost use Rattle.ultra_sweep_command.specs.SeatResults.{IsFresh, AreWholeResults, HasTakenPart, IsSweepTask, AreSweepThreads, HasRead};
 ghost use Rattle.ultra_inputs.specs.Shown.{stream};
 ghost use Rattle.ultra_sweep_command.specs.Shown.{HasShown};
 ghost use Rattle.ultra_sweep_command.specs.declared.fault.SweepFault.TheVariants.{NoThread};
@@ -10,7 +10,7 @@ ghost use Rattle.ultra_sweep_command.specs.declared.fault.SweepFault.TheVariants
 use crate::fault::SweepFault;
 use crate::gate::OutputGate;
 use crate::meter::ProgressMeter;
-use crate::seat_results::{SeatResults, join_seat_results};
+use crate::seat_results::{SeatResults, join_seat_results, results_given};
 use crate::task::SweepTask;
 use std::alloc::{AllocError, Global};
 use std::sync::Wait;
@@ -19,8 +19,8 @@ use ultra_board::{Board, Seat};
 use ultra_msg::Sink;
 use ultra_sweep::work;
 
-/// A thread that was started. It gives back the results of its seat.
-type Thread<'a> = PromisedHandle<SeatResults, SweepTask<'a>>;
+/// A thread that was started. It gives back the results of its seat, or the seat alone.
+type Thread<'a> = PromisedHandle<Result<SeatResults, Seat>, SweepTask<'a>>;
 
 /// The caller with its seat, and the threads that it has started.
 #[derive(Drop)]
@@ -35,7 +35,8 @@ pub struct SweepThreads<'a> {
 
 impl<'a> SweepThreads<'a> {
     /// Starts `count` threads, at most 63, each with its own seat. On every return path the threads
-    /// that were started are joined: by `finish`, or here where one couldn't be started.
+    /// that were started are joined: by `finish`, or here where one couldn't be started. Without
+    /// threads to start, the error is `NoMemory`.
     pub(crate) fn start<S, R: Threads + Wait + Sync>(
         scope: &Scope<'a, S>,
         rt: &'a R,
@@ -50,6 +51,7 @@ impl<'a> SweepThreads<'a> {
         ensures sweep_threads { IfOk result AreSweepThreads }
         ensures count { IfOk result (λ sweep_threads. length sweep_threads.threads.items ≡ count) }
         ensures task { IfOk result (λ sweep_threads. sweep_threads.task ≡ task.entry) }
+        ensures no_thread { IfErr result (λ f. f ≡ NoThread → 0 < count) }
     {
         let threads = Vec::with_capacity(alloc, count)?;
         let mut sweep_threads = SweepThreads {
@@ -128,7 +130,7 @@ impl<'a> SweepThreads<'a> {
             sweep_threads.stop_early(rt);
             return Err(AllocError);
         };
-        join_all(rt, task, SeatResults { seat, results }, threads)
+        join_all(rt, alloc, task, SeatResults { seat, results }, threads)
     }
 
     /// Draws the jobs that are left, so that each thread ends after the job that it has begun, and
@@ -147,7 +149,7 @@ impl<'a> SweepThreads<'a> {
             }
         }
         for thread in threads {
-            thread.join(rt);
+            let _ = thread.join(rt);
         }
     }
 }
@@ -184,10 +186,10 @@ fn start_thread<'a, S, R: Threads + Wait + Sync>(
         output,
         signal,
     } = task;
-    let part = move || -> SeatResults
+    let part = move || -> Result<SeatResults, Seat>
         requires task { board.now.limits.limit ≡ length jobs.now }
         requires fresh { IsFresh board.now 1 seat }
-        ensures { AreSeatResults output.entry.now board.entry.now jobs.entry.now 1 result }
+        ensures { HasTakenPart output.entry.now board.entry.now jobs.entry.now result }
     {
         SweepTask {
             board,
@@ -220,6 +222,7 @@ fn show_progress<E: Sink>(board: &Board, seat: &mut Seat, meter: &mut ProgressMe
 /// Joins the threads. The results of their seats and of the caller's become those of one seat.
 fn join_all<'a, R: Threads>(
     rt: &R,
+    alloc: Global,
     task: SweepTask<'a>,
     own: SeatResults,
     threads: Vec<Thread<'a>>,
@@ -231,7 +234,7 @@ fn join_all<'a, R: Threads>(
 {
     let mut all = Ok(own);
     for thread in threads {
-        let seat_results = thread.join(rt);
+        let seat_results = results_given(alloc, thread.join(rt));
         all = match all {
             Ok(all) => join_seat_results(task.board, all, seat_results),
             Err(refused) => Err(refused),

@@ -2,7 +2,7 @@
 
 ghost use Rattle.std.specs.Prelude.{◌≡◌};
 ghost use Rattle.ultra_sweep_command.specs.Output.{job_output};
-ghost use Rattle.ultra_sweep_command.specs.SeatResults.{IsFresh, AreSeatResults, IsSweepTask};
+ghost use Rattle.ultra_sweep_command.specs.SeatResults.{IsFresh, HasTakenPart, IsSweepTask};
 
 use crate::gate::OutputGate;
 use crate::seat_results::SeatResults;
@@ -12,9 +12,10 @@ use std::sync::Wait;
 use std::thread::Promise;
 use ultra_args::SweepOutput;
 use ultra_board::{Board, Seat};
-use ultra_sweep::{Job, JobGate, JobResult, work};
+use ultra_sweep::{Job, JobGate, JobResult, WorkFault, work};
 
-/// The task of all threads. Each promises the results of its seat, which has one place.
+/// The task of all threads. Each has a seat of one place. It promises the results of that seat, once
+/// no job is left; or the seat as it was, where memory for the results was refused.
 #[derive(Clone, Copy, Drop)]
 pub struct SweepTask<'a> {
     /// The board that the jobs are drawn from.
@@ -27,20 +28,25 @@ pub struct SweepTask<'a> {
     pub signal: &'a DoneSignal,
 }
 
-impl<'a> Promise<SeatResults> for SweepTask<'a> {
-    ghost use Rattle.ultra_sweep_command.specs.SeatResults.{AreSeatResults};
+impl<'a> Promise<Result<SeatResults, Seat>> for SweepTask<'a> {
+    ghost use Rattle.ultra_sweep_command.specs.SeatResults.{HasTakenPart};
 
-    ghost kept_by = { λ task seat_results.
-        AreSeatResults task.output.now task.board.now task.jobs.now 1 seat_results };
+    ghost kept_by = { λ task given.
+        HasTakenPart task.output.now task.board.now task.jobs.now given };
 }
 
 impl SweepTask<'_> {
     /// Does jobs until none is left. Where memory for the results is refused, it leaves all jobs to
-    /// the others.
-    pub(crate) fn take_part<R: Wait>(&self, rt: &R, alloc: Global, seat: Seat) -> SeatResults
+    /// the others, and gives its seat back as it was.
+    pub(crate) fn take_part<R: Wait>(
+        &self,
+        rt: &R,
+        alloc: Global,
+        seat: Seat,
+    ) -> Result<SeatResults, Seat>
         requires task { IsSweepTask self.now }
         requires fresh { IsFresh self.now.board.now 1 seat }
-        ensures { AreSeatResults self.now.output.now self.now.board.now self.now.jobs.now 1 result }
+        ensures { HasTakenPart self.now.output.now self.now.board.now self.now.jobs.now result }
     {
         let gate = NotifyingGate {
             gate: OutputGate::new(self.output),
@@ -48,9 +54,9 @@ impl SweepTask<'_> {
         };
         let (seat, results) = work(rt, alloc, self.board, seat, self.jobs, &gate);
         self.signal.notify_end();
-        SeatResults {
-            seat,
-            results: results.unwrap_or(Vec::new(alloc)),
+        match results {
+            Ok(results) => Ok(SeatResults { seat, results }),
+            Err(WorkFault::NoMemory) => Err(seat),
         }
     }
 }

@@ -10,6 +10,7 @@ returns g c =
     let done = c.run_and_watch-seat_results.ensures in
     record {
       seat_results = done.seat_results;
+      no_thread = done.no_thread;
       count = done.count ∙ meter.ensures.count;
       same_err = refl;
       shown = done.shown start (shown-first meter.result start meter.ensures.last meter.ensures.sound);
