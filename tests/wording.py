@@ -12,7 +12,10 @@ import re
 import sys
 from pathlib import Path
 
-ROOT = Path(__file__).resolve().parent.parent
+sys.path.insert(0, str(Path(__file__).resolve().parent.parent / "tools"))
+
+from testing import ROOT, Tally, start
+
 FOLDERS = ("examples", "bench", "viewer")
 MOST_WORDS = 30
 # each phrase, and what a document says in its place
@@ -96,23 +99,21 @@ def is_lacking(names):
     return bool(lacking)
 
 
-def count_faulty(names):
-    """How many documents are looked at, and how many have a fault. Each fault is printed."""
-    files, faulty = [Path(it) for it in names] or documents(), 0
-    for file in files:
-        found = faults(file.read_text())
-        faulty += bool(found)
-        print("".join(f"{os.path.relpath(file, ROOT)}:{it}\n" for it in found), end="")
-    return len(files), faulty
+def try_wording(tally, names):
+    """Checks the wording of the documents named, or of all of them."""
+    for file in [Path(it) for it in names] or documents():
+        name = os.path.relpath(file, ROOT)
+        found = [f"{name}:{it}" for it in faults(file.read_text())]
+        tally.count(name, "the wording:\n" + "\n".join(found) if found else None)
 
 
 def main(names):
     if is_lacking(names):
         return 2
-    checked, failed = count_faulty(names)
-    print(f"{checked - failed} passed, {failed} failed")
-    return 1 if failed else 0
+    tally = Tally()
+    try_wording(tally, names)
+    return tally.end()
 
 
 if __name__ == "__main__":
-    sys.exit(main(sys.argv[1:]))
+    start(main)
