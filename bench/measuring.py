@@ -8,7 +8,10 @@ from pathlib import Path
 from statistics import geometric_mean
 
 HERE = Path(__file__).resolve().parent
-PROGRAM = HERE / "../crates/ultra/out/ultra"
+sys.path.insert(0, str(HERE.parent / "tools"))
+
+from testing import PROGRAM
+
 BENCH = HERE / "../crates/bench/out/bench"
 # the most cycles that settings may ask for
 MOST_CYCLES = 1_000_000
@@ -19,6 +22,21 @@ def build():
     ran = subprocess.run([HERE / "../tools/prove", "--once", "bench"], capture_output=True, text=True)
     if ran.returncode:
         sys.exit("\n".join((ran.stdout + ran.stderr).splitlines()[-20:]))
+
+
+def compare(simulator, *words):
+    """Ends the script where another simulator doesn't write what this one does."""
+    mine, other = (subprocess.run([it, *words], stdout=subprocess.PIPE) for it in (PROGRAM, simulator))
+    if mine.returncode or not mine.stdout:
+        sys.exit(f"{PROGRAM} ends with status {mine.returncode}: {' '.join(map(str, words))}")
+    if (mine.returncode, mine.stdout) != (other.returncode, other.stdout):
+        sys.exit(f"{simulator} doesn't write what {PROGRAM} does: {' '.join(map(str, words))}")
+
+
+def compare_in_rows(rows, simulator, folder):
+    """Compares what another simulator writes for each row, if there is one."""
+    for row in rows if simulator else []:
+        row.compare(simulator, folder)
 
 
 def processor_seconds(command):

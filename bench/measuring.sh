@@ -4,7 +4,7 @@
 shopt -s inherit_errexit
 
 here=$(cd "$(dirname "${BASH_SOURCE[0]}")" && pwd)
-ultra=$here/../crates/ultra/out/ultra
+ultra=${ULTRA:-$here/../crates/ultra/out/ultra}
 bench=$here/../crates/bench/out/bench
 folder=$(mktemp -d)
 trap 'rm -rf "$folder"' EXIT
@@ -24,6 +24,15 @@ path_of() {
 # proves and builds the program `bench`
 build_bench() {
     "$here/../tools/prove" --once bench >"$folder/log" 2>&1 || { tail -n 20 "$folder/log" >&2; exit 1; }
+}
+
+# ends the script where another program doesn't write what this one does: OTHER ARGUMENT..
+compare() {
+    local other=$1
+    shift
+    "$ultra" "$@" >"$folder/mine" || fail "$ultra ends with status $?: $*"
+    "$other" "$@" >"$folder/theirs" || fail "$other ends with status $?: $*"
+    [ -s "$folder/mine" ] && cmp -s "$folder/mine" "$folder/theirs" || fail "$other doesn't write what $ultra does: $*"
 }
 
 # seconds of the best of N runs: N COMMAND.. What the last run writes is in $folder/out.

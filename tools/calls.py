@@ -12,8 +12,8 @@ from prover import KIT
 from testing import ROOT, SECONDS, call
 
 MEMORY, THREAD = "m", "t"
-# It writes to the descriptor CALLS_NOTED: the kind of the call that is refused; and at the end how many calls there were,
-# the bytes that they asked for, and the threads that were started and not joined.
+# It writes to the descriptor CALLS_NOTED: the kind of the call that is refused; and at the end how many calls there
+# were, the bytes that they asked for, and the threads that were started and not joined.
 LIBRARY = r"""
 extern void *dlsym(void *, const char *);
 extern char *getenv(const char *);

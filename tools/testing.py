@@ -23,7 +23,7 @@ FILES_READ = "FILES_READ"
 
 def start(main):
     """Calls `main` with the arguments, and ends with its status. A signal to end raises, so what is open is closed."""
-    for it in (signal.SIGTERM, signal.SIGHUP):
+    for it in (signal.SIGTERM, signal.SIGINT, signal.SIGHUP):
         signal.signal(it, lambda number, _: sys.exit(128 + number))
     sys.exit(main(sys.argv[1:]))
 
@@ -81,9 +81,9 @@ def end(passed, failed):
 
 
 def turn():
-    """A number that is another one with each commit, and the same in all its clones: what has its turn depends on it."""
+    """A number that is another one with each commit, and the same in all clones: what has its turn depends on it."""
     found = subprocess.run(["git", "rev-parse", "HEAD"], cwd=ROOT, capture_output=True, text=True)
-    return int(found.stdout, 16) if found.returncode == 0 else 0
+    return int(found.stdout[:8], 16) if found.returncode == 0 else 0
 
 
 def left_out(why):
