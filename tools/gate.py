@@ -9,9 +9,9 @@ Then come the other parts, side by side. The commit's sum chooses one crate, who
 share of the refused allocations and of the broken inputs.
 
 A part has passed where it ends with status 0, and its last line says that something passed, that nothing failed, and
-that it was no less than tests/counts says. What this machine can't run is named at the end, and counts for nothing. Each
-file of tests has to be one that a part has read, and `rt ci` has to refuse each edit in must-fail/. The last line counts
-all parts: 'N passed, M failed'.
+that it was no less than tests/counts says. What this machine can't run is named at the end, and counts for nothing.
+Each file of tests has to be one that a part has read, and `rt ci` has to refuse each edit in must-fail/. The last line
+counts all parts: 'N passed, M failed'.
 """
 
 import ctypes
@@ -21,7 +21,6 @@ import resource
 import shutil
 import signal
 import subprocess
-import sys
 import tempfile
 import time
 from contextlib import suppress
@@ -46,6 +45,8 @@ BY_HAND = re.compile(r"viewer/tests/browser/")
 HELPERS = re.compile(r"(?:viewer|studies)/tests/(?!test_|[^/]*\.test\.js$)[^/]+")
 # The folder whose files aren't read where a part is left out.
 FOLDER_OF_PART = {"viewer": "viewer/tests/"}
+# How long a part may take behind the proofs; each of its calls has a limit, too.
+SECONDS_OF_PART = 3600
 # How long the parts have to end by themselves once they are asked to.
 SECONDS_TO_END = 5
 SET_CHILD_SUBREAPER = 36
@@ -66,7 +67,7 @@ class Part:
         self.name, self.lines = name, []
         self.process = subprocess.Popen(
             words, stdin=subprocess.DEVNULL, stdout=subprocess.PIPE, stderr=subprocess.STDOUT, text=True,
-            errors="replace", start_new_session=True, **how,
+            encoding="utf-8", errors="replace", start_new_session=True, **how,
         )
         self._reader = Thread(target=self._read, args=[clock], daemon=True)
         self._reader.start()
@@ -77,10 +78,13 @@ class Part:
             with suppress(BrokenPipeError):
                 print(clock.text("{:3}:{:02} ") + self.lines[-1], flush=True)
 
-    def wait(self):
-        self.process.wait()
+    def wait(self, seconds=None):
+        """Waits for the end of the part, or kills it after its time."""
+        with suppress(subprocess.TimeoutExpired):
+            self.process.wait(seconds)
         # what it has started and left would keep its output open
         self.signal(signal.SIGKILL)
+        self.process.wait()
         self._reader.join(SECONDS_TO_END)
 
     def signal(self, number):
@@ -123,7 +127,7 @@ class Parts:
 
     def wait(self):
         for it in self.all:
-            it.wait()
+            it.wait(None if it.name == WRONG_BODIES else SECONDS_OF_PART)
 
     def __enter__(self):
         return self
@@ -204,7 +208,7 @@ def stored_counts(tree):
 
 
 class Report:
-    """What became of the parts: how many tests have passed and failed, and what else is wrong, which counts as failed."""
+    """What became of the parts: how many tests have passed and failed, and what else is wrong. That counts as failed."""
 
     def __init__(self, tree, files, parts, crate):
         self.tree, self.files, self.parts, self.crate = tree, files, parts, crate
