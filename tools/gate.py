@@ -198,13 +198,19 @@ class Least:
     """The least number of tests of a part, and how many of them may be left out on a machine that can't run them."""
 
     number: int
-    left_out: int = 0
+    left_out: int
+    # whether it is another number in each run
+    varies: bool
 
 
 def stored_counts(tree):
     """The least number of tests of each part, as tests/counts has it."""
     lines = [it.partition("#")[0].split() for it in (tree / "tests/counts").read_text().splitlines()]
-    return {name: Least(*map(int, numbers)) for name, *numbers in filter(None, lines)}
+    return {name: least_of(*numbers) for name, *numbers in filter(None, lines)}
+
+
+def least_of(number, left_out="0"):
+    return Least(int(number.removesuffix("+")), int(left_out), number.endswith("+"))
 
 
 class Report:
@@ -227,7 +233,7 @@ class Report:
         status, last = part.process.returncode, LAST_LINE.fullmatch(part.last_line)
         left_out = [it[1] for it in map(LEFT_OUT_LINE.fullmatch, part.lines) if it]
         self.notes += [f"left out: {part.name}: {it}" for it in left_out]
-        if least and least.left_out == least.number and status == LEFT_OUT and left_out:
+        if least and least.left_out == least.number and status == LEFT_OUT and LEFT_OUT_LINE.fullmatch(part.last_line):
             self.left_out.append(part.name)
             return
         passed, failed = map(int, last.groups()) if last else (0, 0)
@@ -241,14 +247,14 @@ class Report:
             (not least, "has no number in tests/counts"),
         ) if is_so]
         if last and least:
-            self.compare(part.name, passed + failed + min(len(left_out), least.left_out), least.number)
+            self.compare(part.name, passed + failed + min(len(left_out), least.left_out), least)
 
-    def compare(self, name, found, stored):
+    def compare(self, name, found, least):
         """Compares how many tests a part has with its number in tests/counts."""
-        if found < stored:
-            self.faults.append(f"{name} has {found} tests, fewer than the {stored} of tests/counts")
-        elif found > stored:
-            self.notes.append(f"{name} has {found} tests: raise its {stored} in tests/counts")
+        if found < least.number:
+            self.faults.append(f"{name} has {found} tests, fewer than the {least.number} of tests/counts")
+        elif found > least.number and not least.varies:
+            self.notes.append(f"{name} has {found} tests: raise its {least.number} in tests/counts")
 
     def log_of(self, name):
         return next(it.log for it in self.parts.all if it.name == name)
