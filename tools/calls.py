@@ -116,5 +116,5 @@ def counted(words, library, refused_call=0, folder=ROOT, seconds=SECONDS):
         os.close(writing)
         with os.fdopen(reading, "rb") as reader:
             noted = re.fullmatch(r"(?:([mt]) )?(?:(\d+) (\d+) (\d+)\n)?", reader.read().decode())
-    kind, *numbers = noted.groups()
+    kind, *numbers = noted.groups() if noted else [None]
     return Counted((ran.returncode, ran.stdout, ran.stderr), kind, *(int(it or 0) for it in numbers))
