@@ -180,6 +180,7 @@ def run_parts(parts, crate, number):
     for name, *words in (
         ("gate", "tests/gate"),
         ("edits", "tests/edits"),
+        ("judge", "tests/judge"),
         ("answers", "tests/answers"),
         ("documents", "tests/documents"),
         ("viewer", "viewer/tests/run"),
