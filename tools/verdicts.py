@@ -15,6 +15,8 @@ GOAL = re.compile(r"^note: (\S+:\d+:\d+: it is not proved .*)")
 PROOF = re.compile(r"^(?:note: )?(?:\./)?((?:proofs|specs)/\S+?\.antt):\d+:\d+: error: (.*)")
 UNREAD = re.compile(r"^\S+:\d+:\d+: error\[.*")
 ANSWER = re.compile(r"^(?:abbrev )?pub (\S+) :", re.MULTILINE)
+# an answer that is no proof
+UNFINISHED = "\n\nunfinished : Type 0\nunfinished = not_there\n"
 # what is said of a goal that no proof closes, since it fails at values which the prover found and checked
 IS_FALSE = "allow values at which this goal is false"
 # what is said where the prover stopped without an answer
@@ -74,8 +76,8 @@ def unread(said):
 
 
 def errors_in_proofs(said):
-    """The file and the text of each error in a file of proofs or definitions."""
-    return [it.groups() for it in map(PROOF.match, messages(said)) if it]
+    """The file and the text of each error in a file of proofs or definitions, but for the unfinished answers."""
+    return [it.groups() for it in map(PROOF.match, messages(said)) if it and "`unfinished`" not in it[2]]
 
 
 def functions_open(said):
@@ -123,7 +125,7 @@ def verdicts_of_function(function, answered):
     for file, error in function.errors:
         unfit = {file} if file.endswith("/Answers.antt") and not FOLLOWS.search(error) else set()
         yield Verdict(outcome_of_error(error), f"{file}: {error}", unfit)
-    if fits and not function.goals and not re.search(r"it calls|it passes", function.why):
+    if fits and not function.goals and not re.search(r"it calls|it passes|^not proved$", function.why):
         yield Verdict(Outcome.OPEN if LIMITS.search(function.why) else Outcome.EMPTY, f"{function.path}: {function.why}")
 
 
