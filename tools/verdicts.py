@@ -11,7 +11,7 @@ from enum import Enum
 
 FUNCTION = re.compile(r"^fn (\S+): (.*)")
 DECLARED = re.compile(r"^(?:fn|struct|enum|impl|trait) ")
-GOAL = re.compile(r"^note: (\S+:\d+:\d+: it is not proved .*)")
+GOAL = re.compile(r"^note: (\S+\.rt:\d+:\d+: .*\(`\S+`\)(?:;.*)?)$")
 PROOF = re.compile(r"^(?:note: )?(?:\./)?((?:proofs|specs)/\S+?\.antt):\d+:\d+: error: (.*)")
 UNREAD = re.compile(r"^\S+:\d+:\d+: error\[.*")
 ANSWER = re.compile(r"^(?:abbrev )?pub (\S+) :", re.MULTILINE)
