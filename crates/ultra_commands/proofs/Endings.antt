@@ -97,14 +97,14 @@ lib_unread c old new f (lib.refused bad why same) = ap read_failures why
 lib_unread c old new f (lib.no_memory good why same) = ap read_failures why
 lib_unread c old new f (lib.unwritten good why begun) = ap read_failures why
 
-jobs_refused : (paths : List Paths) (output : SweepOutput) (progress : Bool) (old new : Traffic) (before after : SinkState) (f : Failure) → JobsFail paths output progress old new before after f → IsRefusal (status_of f) → new.written ≡ old.written
-jobs_refused paths output progress old new before after f (sweep.refused gave same still) r = same
-jobs_refused paths output progress old new before after f (sweep.not_run jobs last gave stops same shown) r = same
-jobs_refused paths output progress old new before after f (sweep.unwritten jobs gave why begun shown) r = absurd (is_unwritten f why r)
+jobs_refused : (paths : List Paths) (workers : ℕ) (output : SweepOutput) (progress : Bool) (old new : Traffic) (before after : SinkState) (f : Failure) → JobsFail paths workers output progress old new before after f → IsRefusal (status_of f) → new.written ≡ old.written
+jobs_refused paths workers output progress old new before after f (sweep.refused gave same still) r = same
+jobs_refused paths workers output progress old new before after f (sweep.not_run jobs last gave stops same shown) r = same
+jobs_refused paths workers output progress old new before after f (sweep.unwritten jobs gave why begun shown) r = absurd (is_unwritten f why r)
 
-sweep_refused : (path : List ℕ) (output : SweepOutput) (progress : Bool) (old new : Traffic) (before after : SinkState) (f : Failure) → SweepFails path output progress old new before after f → IsRefusal (status_of f) → new.written ≡ old.written
-sweep_refused path output progress old new before after f (sweep.unlisted gave same still) r = same
-sweep_refused path output progress old new before after f (sweep.listed text paths gave fails) r = jobs_refused paths output progress _ new before after f fails r
+sweep_refused : (path : List ℕ) (workers : ℕ) (output : SweepOutput) (progress : Bool) (old new : Traffic) (before after : SinkState) (f : Failure) → SweepFails path workers output progress old new before after f → IsRefusal (status_of f) → new.written ≡ old.written
+sweep_refused path workers output progress old new before after f (sweep.unlisted gave same still) r = same
+sweep_refused path workers output progress old new before after f (sweep.listed text paths gave fails) r = jobs_refused paths workers output progress _ new before after f fails r
 
 not_zero : ¬ IsRefusal 0
 not_zero (inl e) = cc
@@ -150,13 +150,13 @@ module _ (p : Parsed) (old new : Traffic) (before after : SinkState) (source_fai
   text_ended r text conf prog obeyed failed = command_ended r (WroteText text conf prog old new) (TextFails text IsStopped conf prog old new) obeyed failed (λ f. stopped_refused conf prog old new f text)
 
   -- a sweep that is done, or whose failure was reported
-  pub sweep_ended : (path : List ℕ) (output : SweepOutput) (progress : Bool) → (Swept path output progress old new before after → Obeyed p old new before after) → ((f : Failure) (shown : SinkState) → SweepFails path output progress old new before shown f → NotObeyed p old new before shown f)
-      → (end ≡ 0 → Swept path output progress old new before after) → (end ≢ 0 → HasFailed path output progress old new before after source_failures source_failures_after end)
+  pub sweep_ended : (path : List ℕ) (workers : ℕ) (output : SweepOutput) (progress : Bool) → (Swept path output progress old new before after → Obeyed p old new before after) → ((f : Failure) (shown : SinkState) → SweepFails path workers output progress old new before shown f → NotObeyed p old new before shown f)
+      → (end ≡ 0 → Swept path output progress old new before after) → (end ≢ 0 → HasFailed path workers output progress old new before after source_failures source_failures_after end)
       → (end ≡ 0 → source_failures_after ≡ source_failures) → (end ≡ 0 → failures_after ≡ failures) → (end ≢ 0 → (f : Failure) × (status_of f ≡ end) × (failures_after ≡ failures + write_failures f)) → HasEnded p old new before after source_failures source_failures_after failures failures_after end
-  sweep_ended path output progress obeyed failed done fails read_still still counted = ⊎_elim (λ zero. well_ended zero (obeyed (done zero)) (read_still zero) (still zero)) (λ (bad : end ≢ 0). badly (fails bad) (counted bad)) (cases_eq end 0)
+  sweep_ended path workers output progress obeyed failed done fails read_still still counted = ⊎_elim (λ zero. well_ended zero (obeyed (done zero)) (read_still zero) (still zero)) (λ (bad : end ≢ 0). badly (fails bad) (counted bad)) (cases_eq end 0)
     where
-      badly : HasFailed path output progress old new before after source_failures source_failures_after end → (f : Failure) × (status_of f ≡ end) × (failures_after ≡ failures + write_failures f) → HasEnded p old new before after source_failures source_failures_after failures failures_after end
+      badly : HasFailed path workers output progress old new before after source_failures source_failures_after end → (f : Failure) × (status_of f ≡ end) × (failures_after ≡ failures + write_failures f) → HasEnded p old new before after source_failures source_failures_after failures failures_after end
       badly b (g, other, count) =
           let f = b.failure in
           let both : write_failures g ≡ write_failures f = (ends g).written ∙ (ap status_failures (other ∙ sym b.same_status) ∙ sym (ends f).written) in
-          failure_ended f b.shown (failed f b.shown b.why) (sweep_refused path output progress old new before b.shown f b.why) b.read_counted (count ∙ ap (λ n. failures + n) both) (sym b.same_status) b.report
+          failure_ended f b.shown (failed f b.shown b.why) (sweep_refused path workers output progress old new before b.shown f b.why) b.read_counted (count ∙ ap (λ n. failures + n) both) (sym b.same_status) b.report

@@ -91,7 +91,7 @@ NotObeyed (parsed.Invocation (Para conf prog schedule only_end)) old new before 
 NotObeyed (parsed.Invocation (ListOf prog careful)) old new before after f =
     ListFails prog.now careful old new f × (after ≡ before)
 NotObeyed (parsed.Invocation (Sweep jobs workers at_once progress output)) old new before after f =
-    SweepFails jobs.now output progress old new before after f
+    SweepFails jobs.now workers output progress old new before after f
 NotObeyed (parsed.Invocation (Lib coordination)) old new before after f =
     (new.files ≡ old.files) × LibFails coordination old.written new.written f × (after ≡ before)
 NotObeyed (parsed.Help text) old new before after f =

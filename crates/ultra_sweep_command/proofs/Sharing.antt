@@ -1,5 +1,5 @@
--- seats that stay fresh, and the results of two seats that become those of one
-use Rattle.std.proofs.Common.{◌≡◌, ◌∙◌, ◌+◌, ◌-◌, ℕ, List, ◌++◌, refl, ap, subst, sym, arith}
+-- who is started, seats that stay fresh, and the results of two seats that become those of one
+use Rattle.std.proofs.Common.{◌≡◌, ◌∙◌, ◌+◌, ◌-◌, ◌<◌, min, if◌then◌else◌, Bool, true, false, ℕ, List, ◌++◌, refl, ap, subst, sym, arith, inl, inr}
 use Rattle.std.proofs.lemmas.List.{map-append}
 use Rattle.std.proofs.lemmas.List.Elements.{All-append}
 use Rattle.std.specs.List.{All}
@@ -12,6 +12,12 @@ use Rattle.ultra_sweep.specs.Job.{job_numbers, IsResultAmong}
 use Rattle.ultra_sweep_command.specs.Output.{job_output}
 use Rattle.ultra_sweep_command.specs.declared.seat_results.SeatResults.{SeatResults}
 use Rattle.ultra_sweep_command.specs.SeatResults.{IsFresh, AreSeatResults, AreWholeResults, HasRead}
+use Rattle.ultra_sweep_command.specs.Sweep.{StartsThreads}
+
+-- where one of several threads is started
+pub starts_threads : (workers : ℕ) (progress : Bool) → 0 < (if progress then min workers 63 else workers - 1) → StartsThreads workers progress
+starts_threads workers true some = inl refl
+starts_threads workers false some = inr (λ one. absurd (omega (arith, one, some)))
 
 -- a seat stays fresh when it reads how many jobs are finished
 pub fresh-read : (board : BoardState) (n : ℕ) (old new : SeatState) → new.board ≡ old.board → HasRead old.view new.view → IsFresh board n old → IsFresh board n new

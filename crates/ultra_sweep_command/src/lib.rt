@@ -58,7 +58,8 @@ pub struct SweepPlan {
 /// Each file is accepted before the next is read, and all before a byte is written. The bytes
 /// depend on neither number of the plan. With `progress`, `err` takes lines `ultra: K of N jobs` as
 /// jobs are finished, the last one with all of them; after a failed write to `err` no further line
-/// is written. The call may wait. On every return path the threads that were started are joined.
+/// is written. A sweep by one worker without progress starts no thread. The call may wait. On every
+/// return path the threads that were started are joined.
 pub fn sweep<R: Threads + Wait + Sync, F: Source, O: Sink, E: Sink>(
     rt: &R,
     alloc: Global,
@@ -73,7 +74,8 @@ pub fn sweep<R: Threads + Wait + Sync, F: Source, O: Sink, E: Sink>(
         (traffic (F.files source.new) (O.taken out.new))
         (stream (E.taken err.old) (E.failures err.old))
         (stream (E.taken err.new) (E.failures err.new)) }
-    ensures failed { result ≢ 0 → HasFailed jobs_path.now plan.output plan.progress
+    ensures failed { result ≢ 0 → HasFailed jobs_path.now plan.workers plan.output
+        plan.progress
         (traffic (F.files source.old) (O.taken out.old))
         (traffic (F.files source.new) (O.taken out.new))
         (stream (E.taken err.old) (E.failures err.old))
@@ -109,7 +111,8 @@ fn sweep_jobs<'l, R: Threads + Wait + Sync, F: Source, O: Sink, E: Sink>(
         (traffic (F.files source.new) (O.taken out.new))
         (stream (E.taken err.old) (E.failures err.old))
         (stream (E.taken err.new) (E.failures err.new))) }
-    ensures err { IfErr result (JobsFail (all_paths list.now) plan.now.output plan.now.progress
+    ensures err { IfErr result (JobsFail (all_paths list.now) plan.now.workers plan.now.output
+        plan.now.progress
         (traffic (F.files source.old) (O.taken out.old))
         (traffic (F.files source.new) (O.taken out.new))
         (stream (E.taken err.old) (E.failures err.old))

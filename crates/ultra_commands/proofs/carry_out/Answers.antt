@@ -114,7 +114,7 @@ pub returns-in-Sweep : goal.returns-in-Sweep
 returns-in-Sweep g c =
     let a = c.in-Sweep in
     let did = c.sweep.ensures in
-    rw a.is (sweep_ended (parsed.Invocation (Sweep a.jobs a.workers a.at_once a.progress a.output)) _ _ _ _ _ _ _ _ _ a.jobs.now a.output a.progress (λ d. d) (λ f shown why. why) did.done did.failed did.read_still did.still did.counted)
+    rw a.is (sweep_ended (parsed.Invocation (Sweep a.jobs a.workers a.at_once a.progress a.output)) _ _ _ _ _ _ _ _ _ a.jobs.now a.workers a.output a.progress (λ d. d) (λ f shown why. why) did.done did.failed did.read_still did.still did.counted)
 
 pub returns-in-Lib : goal.returns-in-Lib
 returns-in-Lib g c =

@@ -1,18 +1,21 @@
 -- how each end is one of those of a sweep
-use Rattle.std.proofs.Common.{◌≡◌, ◌∙◌, ap, inl, inr, length, refl, subst, sym}
+use Rattle.std.proofs.Common.{◌≡◌, ◌∙◌, ◌<◌, ap, inl, inr, length, refl, subst, sym}
 use Rattle.std.proofs.lemmas.Result.{err_from_is_err_and}
 use Rattle.ultra_sweep.specs.Job.{texts_of}
+use Rattle.ultra_sweep_command.specs.declared.SweepPlan.{SweepPlan}
 use Rattle.ultra_sweep_command.specs.declared.fault.SweepFault.{SweepFault}
 use Rattle.ultra_sweep_command.specs.declared.fault.SweepFault.TheVariants.{NoMemory, NoThread}
 use Rattle.ultra_inputs.specs.Shown.{stream}
 use Rattle.ultra_sweep_command.specs.Shown.{IsProgressShown}
 use Rattle.ultra_sweep_command.specs.Output.{job_output}
 use Rattle.ultra_sweep_command.specs.Sweep.{failure_of, StopsJobs, refused, not_run, unwritten}
+use Rattle.ultra_sweep_command.specs.SeatResults.{threads_of}
+use Rattle.ultra_sweep_command.proofs.Sharing.{starts_threads}
 use Rattle.ultra_sweep_command.proofs.sweep_jobs.Goals as goal
 
-stops_jobs : (fault : SweepFault) → StopsJobs (failure_of fault)
-stops_jobs NoMemory = inl refl
-stops_jobs NoThread = inr refl
+stops_jobs : (plan : SweepPlan) (fault : SweepFault) → (fault ≡ NoThread → 0 < threads_of plan) → StopsJobs plan.workers plan.progress (failure_of fault)
+stops_jobs plan NoMemory some = inl refl
+stops_jobs plan NoThread some = inr (refl, starts_threads plan.workers plan.progress (some refl))
 
 pub returns-in_err-jobs-clause-err : goal.returns-in_err-jobs-clause-err
 returns-in_err-jobs-clause-err g c =
@@ -38,5 +41,5 @@ returns-clause-err g c =
     let some = c.in-Err.ensures.some_shown in
     let before = stream (g.E.Sink.taken c.args.err.now) (g.E.Sink.failures c.args.err.now) in
     let after = stream (g.E.Sink.taken c.run_jobs.new.err) (g.E.Sink.failures c.run_jobs.new.err) in
-    not_run jobs some.0 c.in_ok-jobs.ensures.ok (subst StopsJobs (sym c.failure.ensures) (stops_jobs c.in-Err.fault)) refl
+    not_run jobs some.0 c.in_ok-jobs.ensures.ok (subst (StopsJobs c.args.plan.now.workers c.args.plan.now.progress) (sym c.failure.ensures) (stops_jobs c.args.plan.now c.in-Err.fault c.in-Err.ensures.no_thread)) refl
     (subst (λ js. IsProgressShown c.args.plan.now.progress (length js) some.0 before after) same some.1)
