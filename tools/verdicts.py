@@ -1,7 +1,7 @@
 """What the prover's messages say of an edit that makes a body or a definition wrong.
 
-An edit is refused by a goal of its own: one that is false at values which the prover found, or one for which its search
-came to an end without a proof. Where the search gave up at a limit, or where a proof written by hand no longer fits, the
+An edit is refused by a goal of a function that it changes: the goal is false at values which the prover found, or its
+search came to an end without a proof. Where the search gave up at a limit, or where a proof written by hand no longer fits, the
 goal may hold all the same: then the edit is open. Where no goal is left open but a name is gone, it shows nothing.
 """
 
