@@ -80,6 +80,12 @@ def errors_in_proofs(said):
     return [it.groups() for it in map(PROOF.match, messages(said)) if it and "`unfinished`" not in it[2]]
 
 
+def folders_of(path):
+    """Where the proof files of a function may be: if it calls itself, its folder begins with a plus sign."""
+    *above, name = path.split("::")[1:]
+    return tuple("/".join(["proofs", *above, it, ""]) for it in (name, f"+{name}"))
+
+
 def functions_open(said):
     """The functions of a check that aren't proved."""
     errors, goals = errors_in_proofs(said), []
@@ -88,8 +94,8 @@ def functions_open(said):
         if goal:
             goals.append(goal[1])
         elif function and not function[2].startswith("proved"):
-            folder = "proofs/" + "/".join(function[1].split("::")[1:]) + "/"
-            yield Function(*function.groups(), goals, [it for it in errors if it[0].startswith(folder)])
+            folders = folders_of(function[1])
+            yield Function(*function.groups(), goals, [it for it in errors if it[0].startswith(folders)])
         if DECLARED.match(message):
             goals = []
 
