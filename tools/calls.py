@@ -13,7 +13,7 @@ from testing import ROOT, SECONDS, call
 
 MEMORY, THREAD = "m", "t"
 # It writes to the descriptor CALLS_NOTED: the kind of the call that is refused; and at the end how many calls there
-# were, the bytes that they asked for, and the threads that were started and not joined.
+# were, which was the first for a thread, the bytes that they asked for, and the threads that were started and not joined.
 LIBRARY = r"""
 extern void *dlsym(void *, const char *);
 extern char *getenv(const char *);
@@ -22,7 +22,7 @@ extern int snprintf(char *, unsigned long, const char *, ...);
 extern long write(int, const void *, unsigned long);
 extern int *__errno_location(void);
 
-static long calls, bytes, unjoined, is_noted;
+static long calls, first_thread, bytes, unjoined, is_noted;
 
 static long number_of(const char *name) {
     const char *text = getenv(name);
@@ -36,18 +36,20 @@ static void note(const char *text, long length) { write(number_of("CALLS_NOTED")
 static void *next(const char *name) { return dlsym((void *)-1l, name); }
 
 static int is_refused(const char *kind, unsigned long size) {
+    long number = added(&calls, 1);
     added(&bytes, size);
-    if (added(&calls, 1) != number_of("REFUSED_CALL")) return 0;
+    if (*kind == 't' && !first_thread) first_thread = number;
+    if (number != number_of("REFUSED_CALL")) return 0;
     note(kind, 2);
     *__errno_location() = 12;
     return 1;
 }
 
 static __attribute__((destructor)) void note_counts(void) {
-    char text[80];
+    char text[100];
     if (__atomic_exchange_n(&is_noted, 1, __ATOMIC_SEQ_CST)) return;
     // this one calls for no memory itself
-    note(text, snprintf(text, sizeof text, "%ld %ld %ld\n", calls, bytes, unjoined));
+    note(text, snprintf(text, sizeof text, "%ld %ld %ld %ld\n", calls, first_thread, bytes, unjoined));
 }
 
 void *malloc(unsigned long size) {
@@ -92,6 +94,8 @@ class Counted:
     # which kind of call was refused, if one was
     refused: str | None = None
     calls: int = 0
+    # the number of the first call for a thread, or 0 without any: up to there the nth call is the same in each run
+    first_thread: int = 0
     bytes: int = 0
     unjoined: int = 0
 
@@ -115,6 +119,6 @@ def counted(words, library, refused_call=0, folder=ROOT, seconds=SECONDS):
     finally:
         os.close(writing)
         with os.fdopen(reading, "rb") as reader:
-            noted = re.fullmatch(r"(?:([mt]) )?(?:(\d+) (\d+) (\d+)\n)?", reader.read().decode())
+            noted = re.fullmatch(r"(?:([mt]) )?(?:(\d+) (\d+) (\d+) (\d+)\n)?", reader.read().decode())
     kind, *numbers = noted.groups() if noted else [None]
     return Counted((ran.returncode, ran.stdout, ran.stderr), kind, *(int(it or 0) for it in numbers))
