@@ -3,9 +3,7 @@
 
 ghost use Rattle.std.specs.Prelude.{◌≡◌, ◌≢◌, ◌+◌, IfOk, OnErr};
 ghost use Rattle.ultra_command_line.specs.declared.Parsed.{Parsed};
-ghost use Rattle.ultra_inputs.specs.Traffic.{traffic};
-ghost use Rattle.ultra_inputs.specs.Shown.{stream};
-ghost use Rattle.ultra_inputs.specs.Status.{status_failures, IsRefusal, IsStatus};
+ghost use Rattle.ultra_inputs.specs.{Traffic.traffic, Shown.stream, Status.{status_failures, IsRefusal, IsStatus}};
 ghost use Rattle.ultra_commands.specs.Outcome.{Obeyed, Failed};
 
 use std::env::Env;

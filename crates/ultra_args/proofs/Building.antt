@@ -1,14 +1,8 @@
 -- a command with one more argument or subcommand
 use Rattle.std.proofs.Common.{◌∙◌, ◌≡◌, ℕ, List, [], ◌∷◌, Some, ap, ap₂}
-use Rattle.std.specs.Borrow.{Bor}
-use Rattle.std.specs.Prelude.{◌||◌, true}
+use Rattle.std.specs.{Borrow.Bor, Prelude.{◌||◌, true}}
 use Rattle.clap.specs.Words.{AddsArg, AddsSubcommand, App, Rule, rule_of, with_rule, with_subcommand}
-use Rattle.clap.specs.declared.builder.Arg.{Arg}
-use Rattle.clap.specs.declared.builder.ArgAction.{ArgAction}
-use Rattle.clap.specs.declared.builder.ValueParser.{ValueParser}
-use Rattle.clap.specs.declared.builder.texts.Texts.TheVariants.{One}
-use Rattle.clap.specs.declared.builder.Command.{Command}
-use Rattle.clap.specs.declared.builder.Command.TheViews.{out-Command}
+use Rattle.clap.specs.declared.builder.{Arg.Arg, ArgAction.ArgAction, ValueParser.ValueParser, texts.Texts.TheVariants.One, Command.{Command, TheViews.out-Command}}
 use Rattle.ultra_args.specs.Grammar.{IsRead, IsApp}
 
 pub with_argument : (app : App) (rule : Rule) (old : Command) (a : Arg) (new : Command) → IsApp app old → IsRead rule a → AddsArg old a new → IsApp (with_rule app rule) new

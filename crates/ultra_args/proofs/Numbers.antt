@@ -2,8 +2,7 @@
 use Rattle.std.proofs.Common.{arith, ◌≡◌, ◌∙◌, ◌<◌, ◌^◌, ℕ, Bool, true, false, List, [], ◌∷◌, length, Option, Some, None, ap, refl, sym}
 use Rattle.std.proofs.lemmas.Bool.{ltb-true, lt-ltb}
 use Rattle.std.specs.Prelude.{◌&&◌, nat_lt, Result, Ok, Err, option_and_then, if◌then◌else◌}
-use Rattle.std.specs.Char.{digit_value}
-use Rattle.std.specs.Str.Parse.{AllDigits, IsNumeral, ParsesUnsigned, digits_value, without_leading_plus}
+use Rattle.std.specs.{Char.digit_value, Str.Parse.{AllDigits, IsNumeral, ParsesUnsigned, digits_value, without_leading_plus}}
 use Rattle.clap.specs.Words.{Text, ReadsOne}
 use Rattle.ultra_args.specs.Asked.{all_digits, number_below}
 

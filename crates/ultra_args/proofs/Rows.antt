@@ -1,14 +1,8 @@
 -- what the getters of `clap` read, by its rows
 use Rattle.std.proofs.Common.{◌∙◌, ◌≡◌, Bool, true, false, cond, List, [], ◌∷◌, map, option_map, Option, Some, None, ap, refl, sym}
-use Rattle.std.specs.Prelude.{find, slice_get}
-use Rattle.std.specs.Str.{bytes_eq}
-use Rattle.std.specs.Borrow.{Bor}
-use Rattle.clap.specs.Facts.{Entry}
+use Rattle.std.specs.{Prelude.{find, slice_get, option_and_then}, Str.bytes_eq, Borrow.Bor}
+use Rattle.clap.specs.{Facts.Entry, Matches.{first_value, matched_of, one_text, raw_values}, Values.read_as, declared.parser.matches.Found.Found}
 use Rattle.clap.specs.Walk.{Row, Text, all_of, first_of, one_of, row_of, row_text, rows_of}
-use Rattle.clap.specs.Matches.{first_value, matched_of, one_text, raw_values}
-use Rattle.clap.specs.Values.{read_as}
-use Rattle.clap.specs.declared.parser.matches.Found.{Found}
-use Rattle.std.specs.Prelude.{option_and_then}
 
 row_found : (id : Text) (es : List Entry) → find (λ r. bytes_eq r.id id) (map row_of es) ≡ option_map row_of (find (λ e. bytes_eq e.0.now id) es)
 row_found id [] = refl

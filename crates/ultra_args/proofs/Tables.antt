@@ -1,16 +1,11 @@
 -- a command with the next argument of its row, and the program with the next command
 use Rattle.std.proofs.Common.{◌≡◌, ℕ, ◌+◌, ◌<◌, Bool, true, false, List, [], ◌∷◌, Some, cond, length, get_or, map, option_map, take, refl, sym, subst}
-use Rattle.std.specs.Prelude.{find}
-use Rattle.std.specs.Str.{bytes_eq}
+use Rattle.std.specs.{Prelude.find, Str.bytes_eq}
 use Rattle.std.proofs.lemmas.List.Sums.{fold_more}
 use Rattle.clap.specs.Words.{AddsArg, AddsSubcommand, App, Text, with_rule, with_subcommand}
-use Rattle.clap.specs.declared.builder.Arg.{Arg}
-use Rattle.clap.specs.declared.builder.Command.{Command}
-use Rattle.ultra_args.specs.Asked.{command_among}
+use Rattle.clap.specs.declared.builder.{Arg.Arg, Command.Command}
+use Rattle.ultra_args.specs.{Asked.command_among, declared.table.{Argument.Argument, CommandName.CommandName, CommandRow.CommandRow}}
 use Rattle.ultra_args.specs.Grammar.{app_in, program_app, program_in, rule_in, with_arguments, IsApp, IsRead}
-use Rattle.ultra_args.specs.declared.table.Argument.{Argument}
-use Rattle.ultra_args.specs.declared.table.CommandName.{CommandName}
-use Rattle.ultra_args.specs.declared.table.CommandRow.{CommandRow}
 use Rattle.ultra_args.proofs.Building.{with_argument, with_command}
 
 module _ {T : Type 0} (text : T → Text) where

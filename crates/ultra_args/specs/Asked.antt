@@ -1,31 +1,11 @@
 -- what a command line asks for
-use Rattle.std.specs.Prelude.{◌==◌, ◌&&◌, ◌≤◌, ℕ, Bool, true, false, List, [], ◌∷◌, find}
-use Rattle.std.specs.Prelude.{length, slice_index, Option, Some, None, codes, nat_lt, nat_le}
-use Rattle.std.specs.Prelude.{if◌then◌else◌, option_map, option_and_then}
-use Rattle.std.specs.Char.{digit_value}
-use Rattle.std.specs.Option.{option_map_or}
-use Rattle.std.specs.Str.{bytes_eq}
-use Rattle.std.specs.Str.Parse.{digits_value, without_leading_plus}
+use Rattle.std.specs.Prelude.{◌==◌, ◌&&◌, ◌≤◌, ℕ, Bool, true, false, List, [], ◌∷◌, find, length, slice_index, Option, Some, None, codes, nat_lt, nat_le, if◌then◌else◌, option_map, option_and_then}
+use Rattle.std.specs.{Char.digit_value, Option.option_map_or, Str.{bytes_eq, Parse.{digits_value, without_leading_plus}}}
 use Rattle.clap.specs.Words.{Row, Text, all_of, first_of, one_of, subcommand_of}
-use Rattle.ultra_args.specs.declared.Invocation.{Invocation}
+use Rattle.ultra_args.specs.{declared.{Invocation.Invocation, LineFilter.{LineFilter, TheVariants.{All, Events, End}}, ScheduleSource.{ScheduleSource, TheVariants.{File, Seed}}, sweep_output.SweepOutput.{SweepOutput, TheVariants.{Report, Measures}}, Coordination.{Coordination, TheVariants.{Gate, Queue, ReadersWriters, Barrier, Tickets}}, table.{Argument.Argument, ArgumentKind.{ArgumentKind, TheVariants.Number}, CommandName.CommandName, CommandRow.CommandRow}}, Grammar.ultra_app}
 use Rattle.ultra_args.specs.declared.Invocation.TheVariants as command
-use Rattle.ultra_args.specs.declared.LineFilter.{LineFilter}
-use Rattle.ultra_args.specs.declared.LineFilter.TheVariants.{All, Events, End}
-use Rattle.ultra_args.specs.declared.ScheduleSource.{ScheduleSource}
-use Rattle.ultra_args.specs.declared.ScheduleSource.TheVariants.{File, Seed}
-use Rattle.ultra_args.specs.declared.sweep_output.SweepOutput.{SweepOutput}
-use Rattle.ultra_args.specs.declared.sweep_output.SweepOutput.TheVariants.{Report, Measures}
-use Rattle.ultra_args.specs.declared.Coordination.{Coordination}
-use Rattle.ultra_args.specs.declared.Coordination.TheVariants.{Gate, Queue, ReadersWriters}
-use Rattle.ultra_args.specs.declared.Coordination.TheVariants.{Barrier, Tickets}
-use Rattle.ultra_args.specs.declared.table.Argument.{Argument}
-use Rattle.ultra_args.specs.declared.table.ArgumentKind.{ArgumentKind}
-use Rattle.ultra_args.specs.declared.table.ArgumentKind.TheVariants.{Number}
-use Rattle.ultra_args.specs.declared.table.CommandName.{CommandName}
 use Rattle.ultra_args.specs.declared.table.CommandName.TheVariants as name
-use Rattle.ultra_args.specs.declared.table.CommandRow.{CommandRow}
 use Rattle.ultra_args.specs.declared.table.TheConstants as arg
-use Rattle.ultra_args.specs.Grammar.{ultra_app}
 
 -- where the steps of a paracomputer come from, with the path as a text
 pub data Schedule : Type 0 where

@@ -1,20 +1,10 @@
 -- the commands and their arguments, as `clap` knows them
 use Rattle.std.specs.Prelude.{◌≡◌, false, true, None, Option, Some, List, [], ◌∷◌, codes, fold}
-use Rattle.clap.specs.Words.{App, Rule, Text, app_of, new_app, new_rule, rule_of}
-use Rattle.clap.specs.Words.{with_rule, with_subcommand}
-use Rattle.clap.specs.declared.builder.Arg.{Arg}
-use Rattle.clap.specs.declared.builder.Command.{Command}
-use Rattle.clap.specs.declared.builder.Command.TheViews.{out-Command}
-use Rattle.clap.specs.declared.builder.ArgAction.TheVariants.{Append, SetTrue}
-use Rattle.clap.specs.declared.builder.ValueParser.{ValueParser}
+use Rattle.clap.specs.Words.{App, Rule, Text, app_of, new_app, new_rule, rule_of, with_rule, with_subcommand}
+use Rattle.clap.specs.declared.builder.{Arg.Arg, Command.{Command, TheViews.out-Command}, ArgAction.TheVariants.{Append, SetTrue}, ValueParser.ValueParser}
 use Rattle.clap.specs.declared.builder.ValueParser.TheVariants as vp
-use Rattle.ultra_args.specs.declared.table.Argument.{Argument}
-use Rattle.ultra_args.specs.declared.table.ArgumentKind.{ArgumentKind}
+use Rattle.ultra_args.specs.declared.table.{Argument.Argument, ArgumentKind.ArgumentKind, CommandRow.CommandRow, Presence.{Presence, TheVariants.{Required, Optional, Default}}, TheConstants.COMMANDS}
 use Rattle.ultra_args.specs.declared.table.ArgumentKind.TheVariants as kind
-use Rattle.ultra_args.specs.declared.table.CommandRow.{CommandRow}
-use Rattle.ultra_args.specs.declared.table.Presence.{Presence}
-use Rattle.ultra_args.specs.declared.table.Presence.TheVariants.{Required, Optional, Default}
-use Rattle.ultra_args.specs.declared.table.TheConstants.{COMMANDS}
 
 -- a program that has a version, and that a command has to be named for
 abbrev pub program_app : App

@@ -3,8 +3,7 @@
 ghost use Rattle.std.specs.Prelude.{◌≡◌, IfOk};
 ghost use Rattle.clap.specs.Words.{new_app, new_rule, Text};
 ghost use Rattle.ultra_args.specs.Asked.{command_among, command_named};
-ghost use Rattle.ultra_args.specs.Grammar.{app_in, kind_rule, program_in, rule_in, ultra_app};
-ghost use Rattle.ultra_args.specs.Grammar.{IsRead, IsApp};
+ghost use Rattle.ultra_args.specs.Grammar.{app_in, kind_rule, program_in, rule_in, ultra_app, IsRead, IsApp};
 
 use crate::help::{self, Help};
 use crate::table::{ArgumentKind, COMMANDS, Presence, TableArgument, TableRow};

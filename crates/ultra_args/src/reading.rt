@@ -3,8 +3,7 @@
 ghost use Rattle.std.specs.Prelude.{◌≡◌, map, option_map, IfSome};
 ghost use Rattle.clap.specs.Words.{all_of, first_of, found_of, rows_of, subcommand_rows_of};
 ghost use Rattle.ultra_args.specs.Asked as spec;
-ghost use Rattle.ultra_args.specs.Asked.{asked_of, decimal, given_number, is_set, named, named_in};
-ghost use Rattle.ultra_args.specs.Asked.{number_of, schedule_of, program_with_size, program_without_size, IsInRange};
+ghost use Rattle.ultra_args.specs.Asked.{asked_of, decimal, given_number, is_set, named, named_in, number_of, schedule_of, program_with_size, program_without_size, IsInRange};
 
 use crate::grammar::commands;
 use crate::table::{

@@ -1,25 +1,14 @@
 -- the instructions of a text, line by line
 use Rattle.std.proofs.Common.{◌≡◌, ℕ, suc, ◌+◌, ◌-◌, ◌<◌, ◌≤◌, Bool, true, false, nat_lt, List, [], ◌∷◌, ◌++◌, length, take, drop, filter, Option, Some, None, Result, Ok, Err, IsTrue, refl, sym, ◌∙◌, ap, length-append, below_more, arith, lit≤, length-drop, IfSome, not}
-use Rattle.std.specs.List.{cons_option}
-use Rattle.std.specs.Option.{option_map}
-use Rattle.std.proofs.lemmas.Bool.{and_from, le-leb}
-use Rattle.std.proofs.lemmas.List.{take_more, take_all, take-append-drop, drop_more}
-use Rattle.ultra_isa.specs.declared.Instr.{Instr}
+use Rattle.std.specs.{List.cons_option, Option.option_map}
+use Rattle.std.proofs.lemmas.{Bool.{and_from, le-leb}, List.{take_more, take_all, take-append-drop, drop_more}}
+use Rattle.ultra_isa.specs.{declared.Instr.Instr, Program.{jumps_within, all_jump_within, is_program}}
 use Rattle.ultra_isa.specs.declared.Instr.TheVariants as instr
-use Rattle.ultra_isa.specs.Program.{jumps_within, all_jump_within, is_program}
-use Rattle.ultra_asm.specs.declared.AsmFault.{AsmFault}
-use Rattle.ultra_asm.specs.declared.AsmFaultKind.{AsmFaultKind}
-use Rattle.ultra_asm.specs.declared.labels.Definition.{Definition}
-use Rattle.ultra_asm.specs.declared.instruction.Operand.{Operand}
+use Rattle.ultra_asm.specs.{declared.{AsmFault.AsmFault, AsmFaultKind.AsmFaultKind, labels.Definition.Definition, instruction.Operand.Operand}, Words.{before_colon, is_name}, Instruction.operands_of, Reading.{LabelPcs, read_line}}
 use Rattle.ultra_asm.specs.declared.instruction.Operand.TheVariants as operand
-use Rattle.ultra_asm.specs.Words.{before_colon, is_name}
 use Rattle.ultra_asm.specs.Labels.{statement, definition_of, near_definition_of, label_pc, is_defined_before, near_pc}
-use Rattle.ultra_asm.specs.Instruction.{operands_of}
 use Rattle.ultra_asm.specs.ProgramText.{IsOperand, AreOperands, IsInstruction, AreInstructions, has_words, statements, line_at, IsNewLabel, IsLabelled, AreLinesOf, fault_if, or_else, statement_fault, label_fault, first_word_fault, line_fault, IsFirstFault}
-use Rattle.ultra_asm.specs.Reading.{LabelPcs, read_line}
-use Rattle.ultra_asm.proofs.Operands.{fault_in}
-use Rattle.ultra_asm.proofs.Definitions.{Lines, statements-append, pc_within, near_twice, near_is}
-use Rattle.ultra_asm.proofs.Lines.{line_is, line_fault_is, line_has_room, no_fault, instruction_same}
+use Rattle.ultra_asm.proofs.{Operands.fault_in, Definitions.{Lines, statements-append, pc_within, near_twice, near_is}, Lines.{line_is, line_fault_is, line_has_room, no_fault, instruction_same}}
 
 -- ---- the instructions of statements, in order
 module _ (pcs : LabelPcs) where

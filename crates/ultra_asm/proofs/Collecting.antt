@@ -1,18 +1,9 @@
 -- the labels of a text, collected line by line
 use Rattle.std.proofs.Common.{◌≡◌, ℕ, ◌+◌, ◌<◌, ◌≤◌, Bool, true, false, cond, List, [], ◌∷◌, ◌++◌, length, get_or, take, min, Option, Some, None, option_map, refl, sym, ◌∙◌, ap, inl, inr, arith}
-use Rattle.std.specs.List.{find, All}
-use Rattle.std.specs.List.Sorted.{IsPermutation}
-use Rattle.std.specs.Option.{option_or}
-use Rattle.std.proofs.lemmas.Bool.{cases_Bool}
-use Rattle.std.proofs.lemmas.List.{take_all}
-use Rattle.std.proofs.lemmas.List.Elements.{All-nil, All-push, All-weaker}
-use Rattle.ultra_asm.specs.declared.labels.Definition.{Definition}
-use Rattle.ultra_asm.specs.declared.labels.Label.{Label}
-use Rattle.ultra_asm.specs.Label.{has_name, pc_at, AreInOrder}
-use Rattle.ultra_asm.specs.Labels.{line_label, definition_of, near_definition, near_definition_of}
-use Rattle.ultra_asm.proofs.Definitions.{Lines, first_of, definition_at, definition_next, first_none}
-use Rattle.ultra_asm.proofs.InOrder.{AreInTurn, turns_push, turns_in_order, same_first}
-use Rattle.ultra_asm.proofs.InstructionLines.{AreInstructionLines, count, definition_placed, pc_is}
+use Rattle.std.specs.{List.{find, All, Sorted.IsPermutation}, Option.option_or}
+use Rattle.std.proofs.lemmas.{Bool.cases_Bool, List.{take_all, Elements.{All-nil, All-push, All-weaker}}}
+use Rattle.ultra_asm.specs.{declared.labels.{Definition.Definition, Label.Label}, Label.{has_name, pc_at, AreInOrder}, Labels.{line_label, definition_of, near_definition, near_definition_of}}
+use Rattle.ultra_asm.proofs.{Definitions.{Lines, first_of, definition_at, definition_next, first_none}, InOrder.{AreInTurn, turns_push, turns_in_order, same_first}, InstructionLines.{AreInstructionLines, count, definition_placed, pc_is}}
 
 -- the line of the first label of a name
 abbrev pub found : List ℕ → List Label → Option ℕ

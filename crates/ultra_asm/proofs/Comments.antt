@@ -1,8 +1,7 @@
 -- what is before the first element that passes a test
 use Rattle.std.proofs.Common.{◌≡◌, ℕ, Bool, List, length, take, position, Some, None, sym, ap, ◌∙◌, inl, inr, nat_lt}
 use Rattle.std.specs.List.{before_first, position_or_len}
-use Rattle.std.proofs.lemmas.Bool.{cases_Bool, cond-true, cond-false, ltb-false}
-use Rattle.std.proofs.lemmas.List.{take_all}
+use Rattle.std.proofs.lemmas.{Bool.{cases_Bool, cond-true, cond-false, ltb-false}, List.take_all}
 
 pub before_at : (p : ℕ → Bool) (xs : List ℕ) (i : ℕ) → Some i ≡ position p xs → take i xs ≡ before_first p xs
 before_at p xs i is = elim (cases_Bool (nat_lt (position_or_len p xs) (length xs))) [

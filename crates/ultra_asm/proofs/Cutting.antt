@@ -1,14 +1,9 @@
 -- a text made of plain words is cut into those words again
 use Rattle.std.proofs.Common.{◌≡◌, ℕ, suc, ◌<◌, Bool, true, false, not, ◌&&◌, ◌==◌, List, [], ◌∷◌, ◌++◌, map, length, take, filter, cond, refl, ◌∙◌, ap, arith, append-nil}
-use Rattle.std.specs.List.{slice_split, onto_first, before_first, prefix_len, list_all}
-use Rattle.std.specs.Int.{IsInRange}
-use Rattle.std.specs.Str.Parse.{AllDigits}
-use Rattle.std.proofs.lemmas.Bool.{and_parts, and_from, ne_eqb, cond-false}
-use Rattle.std.proofs.lemmas.List.Folds.{list_all-append}
-use Rattle.std.proofs.lemmas.Str.Parse.{digit_from_value}
+use Rattle.std.specs.{List.{slice_split, onto_first, before_first, prefix_len, list_all}, Int.IsInRange, Str.Parse.AllDigits}
+use Rattle.std.proofs.lemmas.{Bool.{and_parts, and_from, ne_eqb, cond-false}, List.Folds.list_all-append, Str.Parse.digit_from_value}
 use Rattle.ultra_asm.specs.Words.{is_separator, begins_comment, words_of, line_words, lines_of, text_words}
-use Rattle.ultra_asm.specs.declared.instruction.Operand.{Operand}
-use Rattle.ultra_asm.specs.Listing.{operand_text, operands_text}
+use Rattle.ultra_asm.specs.{declared.instruction.Operand.Operand, Listing.{operand_text, operands_text}}
 
 -- a byte that begins no comment and ends no line, and one that separates no words besides
 abbrev pub is_clean : ℕ → Bool

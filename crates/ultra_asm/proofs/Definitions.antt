@@ -1,12 +1,9 @@
 -- where the names of a text are defined
 use Rattle.std.proofs.Common.{◌≡◌, ℕ, ◌+◌, ◌<◌, ◌≤◌, Bool, false, List, [], ◌∷◌, ◌++◌, length, take, drop, filter, map, get_or, Option, Some, None, is_some, refl, sym, ◌∙◌, ap, inl, inr, arith, nat_lt, min, cond, add-zero}
 use Rattle.std.specs.Option.{option_map}
-use Rattle.std.proofs.lemmas.List.Elements.{filter-append}
-use Rattle.std.proofs.lemmas.Bool.{cases_Bool, lt-ltb, le-ltb}
-use Rattle.std.proofs.lemmas.List.{take-append-drop, length-take-le, take_more, map-append, length-append}
-use Rattle.ultra_asm.specs.declared.labels.Definition.{Definition}
+use Rattle.std.proofs.lemmas.{List.{Elements.filter-append, take-append-drop, length-take-le, take_more, map-append, length-append}, Bool.{cases_Bool, lt-ltb, le-ltb}}
+use Rattle.ultra_asm.specs.{declared.labels.Definition.Definition, ProgramText.{statements, has_words}}
 use Rattle.ultra_asm.specs.Labels.{statement, line_label, is_label_named, one_or_none, instructions_on, defines, definition_from, definition_of, label_pc, is_defined_before, near_pc, near_pc_of, near_definition}
-use Rattle.ultra_asm.specs.ProgramText.{statements, has_words}
 
 abbrev pub Lines : Type 0
 Lines = List (List (List ℕ))

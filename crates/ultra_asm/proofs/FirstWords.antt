@@ -1,12 +1,9 @@
 -- a line is read by its first words: the seventh, and those behind it, say no more than the sixth
 use Rattle.std.proofs.Common.{◌≡◌, ℕ, suc, Bool, true, false, List, [], ◌∷◌, take, Option, Some, None, Result, refl, ap}
-use Rattle.ultra_asm.specs.declared.AsmFaultKind.{AsmFaultKind}
-use Rattle.ultra_asm.specs.declared.labels.Definition.{Definition}
-use Rattle.ultra_asm.specs.declared.instruction.Mnemonic.{Mnemonic}
+use Rattle.ultra_asm.specs.{declared.{AsmFaultKind.AsmFaultKind, labels.Definition.Definition, instruction.Mnemonic.Mnemonic}, Instruction.mnemonic_named}
 use Rattle.ultra_asm.specs.declared.instruction.Mnemonic.TheVariants.{Set, Add, AddWord, Subtract, And, ShiftRight, IsBelow, IsEqual, JumpIfZero, JumpIfNotZero, Jump, Number, Size, Load, Store, Faa, Swap, Fence, Halt}
 use Rattle.std.specs.Option.{option_map}
 use Rattle.ultra_asm.specs.Labels.{line_label, after_label, instructions_on, one_or_none, near_pc, word_label}
-use Rattle.ultra_asm.specs.Instruction.{mnemonic_named}
 use Rattle.ultra_asm.specs.Reading.{LabelPcs, read_register, read_number, read_shift, read_label, none_in, one_in, two_in, three_in, map_ok, read_instruction, next_instruction, read_statement, check_label, and_then, read_line}
 
 -- ---- four operands or more are too many, whatever they are

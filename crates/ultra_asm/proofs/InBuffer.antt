@@ -1,7 +1,6 @@
 -- a text whose rest is still to be written in a buffer
 use Rattle.std.proofs.Common.{ℕ, ◌≡◌, List, [], ◌++◌, refl, sym, ◌∙◌, append_assoc}
-use Rattle.ultra_io.specs.declared.text_buffer.TextBuffer.{TextBuffer}
-use Rattle.ultra_io.specs.TextBuffer.{Writes}
+use Rattle.ultra_io.specs.{declared.text_buffer.TextBuffer.TextBuffer, TextBuffer.Writes}
 use Rattle.ultra_io.proofs.Writing.{◌then◌, writes_nothing}
 
 pub record IsOnPage {S : Type 0} (taken : S → List ℕ) (failures : S → ℕ) (text rest : List ℕ) (old new : TextBuffer S) : Type 0 where

@@ -1,19 +1,9 @@
 -- labels in order: a search finds the first of a name, which was the first before they were put in order
 use Rattle.std.proofs.Common.{◌≡◌, ℕ, zero, suc, ◌<◌, ◌≤◌, Bool, true, false, List, [], ◌∷◌, ◌++◌, length, get_or, Option, Some, None, option_map, refl, sym, ◌∙◌, ap, subst, inl, inr, arith}
-use Rattle.std.specs.List.{find, All, Contains}
-use Rattle.std.specs.List.Sorted.{IsPermutation, IsPartitionedBy, IsPartitionPoint}
-use Rattle.std.specs.Cmp.{IsTotalOrder, IsStrictWeakOrder}
-use Rattle.std.specs.Cmp.Lexicographic.{slice_cmp, texts_ties}
-use Rattle.std.specs.Ordering.{is_lt, is_eq, nat_cmp, ordering_then, ordering_reverse}
-use Rattle.std.specs.declared.cmp.Ordering.{Ordering}
-use Rattle.std.specs.declared.cmp.Ordering.TheVariants.{Less, Equal, Greater}
-use Rattle.std.proofs.lemmas.Bool.{cases_Bool, cases_lt, lt-ltb}
-use Rattle.std.proofs.lemmas.Cmp.{nat_list_cmp_total, nat_cmp_total, on_total, then_total, tied_itself}
+use Rattle.std.specs.{List.{find, All, Contains, Sorted.{IsPermutation, IsPartitionedBy, IsPartitionPoint}}, Cmp.{IsTotalOrder, IsStrictWeakOrder, Lexicographic.{slice_cmp, texts_ties}}, Ordering.{is_lt, is_eq, nat_cmp, ordering_then, ordering_reverse}, declared.cmp.Ordering.{Ordering, TheVariants.{Less, Equal, Greater}}}
+use Rattle.std.proofs.lemmas.{Bool.{cases_Bool, cases_lt, lt-ltb}, Cmp.{nat_list_cmp_total, nat_cmp_total, on_total, then_total, tied_itself}, List.Sorted.{ranks_by, sorted_far, Contains-permutation, IsPermutation-sym}, Slice.Eq.bytes_eq-Decides}
 use Rattle.std.proofs.lemmas.List.Elements.{All-nil, All-cons, All-head, All-tail, All-push, All-contains}
-use Rattle.std.proofs.lemmas.List.Sorted.{ranks_by, sorted_far, Contains-permutation, IsPermutation-sym}
-use Rattle.std.proofs.lemmas.Slice.Eq.{bytes_eq-Decides}
-use Rattle.ultra_asm.specs.declared.labels.Label.{Label}
-use Rattle.ultra_asm.specs.Label.{has_name, label_cmp, AreInOrder}
+use Rattle.ultra_asm.specs.{declared.labels.Label.Label, Label.{has_name, label_cmp, AreInOrder}}
 
 -- ---- the order of labels
 abbrev name_cmp : List ℕ → List ℕ → Ordering

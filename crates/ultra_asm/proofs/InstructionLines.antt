@@ -1,14 +1,8 @@
 -- the lines of a text's instructions: the program counter of a line is how many are before it
 use Rattle.std.proofs.Common.{◌≡◌, ℕ, zero, suc, ◌+◌, ◌-◌, ◌<◌, ◌≤◌, ◌⊎◌, true, false, List, [], ◌∷◌, ◌++◌, length, get_or, take, nat_lt, min, Some, refl, ◌∙◌, ap, inl, inr, arith}
 use Rattle.std.specs.List.Sorted.{IsNonDecreasing}
-use Rattle.std.proofs.lemmas.Bool.{cases_Bool, cases_lt, lt-ltb, le-ltb}
-use Rattle.std.proofs.lemmas.List.{get_or_append_left, get_or_push, get_or_default, length_push}
-use Rattle.std.proofs.lemmas.List.Sorted.{IsNonDecreasingBy-push, IsNonDecreasingBy-short}
-use Rattle.std.proofs.lemmas.List.Sums.{prefix_len_is}
-use Rattle.ultra_asm.specs.declared.labels.Definition.{Definition}
-use Rattle.ultra_asm.specs.Label.{pc_at}
-use Rattle.ultra_asm.specs.Labels.{instructions_on, defines, definition_from}
-use Rattle.ultra_asm.specs.ProgramText.{statements}
+use Rattle.std.proofs.lemmas.{Bool.{cases_Bool, cases_lt, lt-ltb, le-ltb}, List.{get_or_append_left, get_or_push, get_or_default, length_push, Sorted.{IsNonDecreasingBy-push, IsNonDecreasingBy-short}, Sums.prefix_len_is}}
+use Rattle.ultra_asm.specs.{declared.labels.Definition.Definition, Label.pc_at, Labels.{instructions_on, defines, definition_from}, ProgramText.statements}
 use Rattle.ultra_asm.proofs.Definitions.{Lines, count_cons, count_next}
 
 -- how many instructions are before line k

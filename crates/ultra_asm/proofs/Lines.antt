@@ -1,23 +1,16 @@
 -- what is read from a line is what the grammar gives, or its fault
 use Rattle.std.proofs.Common.{◌≡◌, ℕ, ◌<◌, ◌≤◌, Bool, true, false, not, nat_lt, List, [], ◌∷◌, length, take, filter, Option, Some, None, Result, Ok, Err, cond, refl, sym, ◌∙◌, ap, inl, inr}
-use Rattle.std.specs.List.{find, cons_option}
-use Rattle.std.specs.Option.{option_map}
-use Rattle.std.specs.Str.{bytes_eq}
+use Rattle.std.specs.{List.{find, cons_option}, Option.option_map, Str.bytes_eq}
 use Rattle.std.proofs.lemmas.Bool.{cases_Bool, cases_lt, cond-true, cond-false, lt-ltb, le-ltb, le-leb, lt-leb}
 use Rattle.std.proofs.lemmas.Slice.Eq.{bytes_eq-Decides}
 use Rattle.ultra_isa.specs.declared.Instr.{Instr}
-use Rattle.ultra_asm.specs.declared.AsmFaultKind.{AsmFaultKind}
-use Rattle.ultra_asm.specs.declared.AsmFaultKind.TheVariants.{UnknownWord, UnknownLabel, DoubleLabel}
-use Rattle.ultra_asm.specs.declared.instruction.Mnemonic.{Mnemonic}
+use Rattle.ultra_asm.specs.{declared.{AsmFaultKind.{AsmFaultKind, TheVariants.{UnknownWord, UnknownLabel, DoubleLabel}}, instruction.Mnemonic.Mnemonic, labels.Definition.Definition}, Words.{before_colon, is_name}}
 use Rattle.ultra_asm.specs.declared.instruction.Mnemonic.TheVariants.{Set, Add, AddWord, Subtract, And, ShiftRight, IsBelow, IsEqual, JumpIfZero, JumpIfNotZero, Jump, Number, Size, Load, Store, Faa, Swap, Fence, Halt}
-use Rattle.ultra_asm.specs.declared.labels.Definition.{Definition}
-use Rattle.ultra_asm.specs.Words.{before_colon, is_name}
 use Rattle.ultra_asm.specs.Labels.{statement, definition_of, label_pc, is_defined_before, near_pc, near_definition, near_definition_of}
 use Rattle.ultra_asm.specs.Instruction.{mnemonic_word, mnemonics, mnemonic_named, mnemonic_of, Sort, a_register, a_number, a_shift, a_label, sorts_of}
 use Rattle.ultra_asm.specs.ProgramText.{IsInstruction, AreInstructions, has_words, statements, line_at, fault_if, fault_unless, or_else, operand_fault, operands_fault, instruction_fault, statement_fault, label_fault, first_word_fault, line_fault}
 use Rattle.ultra_asm.specs.Reading.{LabelPcs, map_ok, read_instruction, next_instruction, read_statement, check_definition, check_name, check_colon, check_label, and_then, read_line}
-use Rattle.ultra_asm.proofs.Operands.{fault_in, read_sound, read_complete, read_fault, made_fault}
-use Rattle.ultra_asm.proofs.Definitions.{Lines, is_before, before_is}
+use Rattle.ultra_asm.proofs.{Operands.{fault_in, read_sound, read_complete, read_fault, made_fault}, Definitions.{Lines, is_before, before_is}}
 
 -- ---- mnemonics
 find_true : {X : Type 0} (test : X → Bool) (xs : List X) (x : X) → find test xs ≡ Some x → test x ≡ true

@@ -4,13 +4,9 @@ use Rattle.std.proofs.lemmas.Bool.{ne_eqb}
 use Rattle.std.specs.Option.{ok_or}
 use Rattle.ultra_isa.specs.declared.Instr.{Instr}
 use Rattle.ultra_isa.specs.declared.Instr.TheVariants as instr
-use Rattle.ultra_asm.specs.declared.AsmFaultKind.{AsmFaultKind}
-use Rattle.ultra_asm.specs.declared.AsmFaultKind.TheVariants.{BadRegister, BadNumber, UnknownLabel, WrongOperands}
-use Rattle.ultra_asm.specs.declared.instruction.Mnemonic.{Mnemonic}
+use Rattle.ultra_asm.specs.{declared.{AsmFaultKind.{AsmFaultKind, TheVariants.{BadRegister, BadNumber, UnknownLabel, WrongOperands}}, instruction.{Mnemonic.Mnemonic, Operand.Operand}}, Words.{decimal_value, register_of, shift_of}}
 use Rattle.ultra_asm.specs.declared.instruction.Mnemonic.TheVariants.{Set, Add, AddWord, Subtract, And, ShiftRight, IsBelow, IsEqual, JumpIfZero, JumpIfNotZero, Jump, Number, Size, Load, Store, Faa, Swap, Fence, Halt}
-use Rattle.ultra_asm.specs.declared.instruction.Operand.{Operand}
 use Rattle.ultra_asm.specs.declared.instruction.Operand.TheVariants as operand
-use Rattle.ultra_asm.specs.Words.{decimal_value, register_of, shift_of}
 use Rattle.ultra_asm.specs.Instruction.{mnemonic_of, operands_of, Sort, a_register, a_number, a_shift, a_label, sorts_of}
 use Rattle.ultra_asm.specs.ProgramText.{IsOperand, AreOperands, fault_unless, fault_if, or_else, operand_fault, fault_of_operands}
 use Rattle.ultra_asm.specs.Reading.{LabelPcs, read_register, read_number, read_shift, read_label, both_operands, all_three_operands, none_in, one_in, two_in, three_in, map_ok, read_instruction}

@@ -1,14 +1,10 @@
 -- the canonical text, line by line
 use Rattle.std.proofs.Common.{◌≡◌, ℕ, zero, suc, ◌+◌, ◌<◌, ◌≤◌, Bool, true, false, ◌||◌, List, [], ◌∷◌, ◌++◌, length, take, drop, get_or, set, slice_get, codes, Option, Some, None, IsTrue, refl, sym, ◌∙◌, ap, inl, inr, append_assoc, arith}
 use Rattle.std.specs.List.{list_any, AllByRecursion}
-use Rattle.std.proofs.lemmas.Bool.{cases_eq, ne_eqb, eq-eqb, leb-true}
-use Rattle.std.proofs.Math.Bool.{or-false, or_assoc}
-use Rattle.std.proofs.lemmas.List.{drop_more, take_more, drop_all, get_or-set_same, get_or-set_other}
-use Rattle.ultra_isa.specs.declared.Instr.{Instr}
+use Rattle.std.proofs.{lemmas.{Bool.{cases_eq, ne_eqb, eq-eqb, leb-true}, List.{drop_more, take_more, drop_all, get_or-set_same, get_or-set_other}}, Math.Bool.{or-false, or_assoc}}
+use Rattle.ultra_isa.specs.{declared.Instr.Instr, Program.jumps_within}
 use Rattle.ultra_isa.specs.declared.Instr.TheVariants as instr
-use Rattle.ultra_isa.specs.Program.{jumps_within}
-use Rattle.ultra_asm.specs.declared.instruction.Operand.{Operand}
-use Rattle.ultra_asm.specs.Instruction.{operands_of}
+use Rattle.ultra_asm.specs.{declared.instruction.Operand.Operand, Instruction.operands_of}
 use Rattle.ultra_asm.specs.Listing.{operand_text, operands_text, label_if, instruction_line, listing_from, jump_target, is_at, is_target, AreWritable, IsListable}
 
 -- ---- operands

@@ -1,7 +1,6 @@
 -- a fault that is passed on
 use Rattle.std.proofs.Common.{◌≡◌, ap}
-use Rattle.std.specs.Prelude.{Result, Ok, Err}
-use Rattle.std.specs.Result.{IsErr, IsErrAnd}
+use Rattle.std.specs.{Prelude.{Result, Ok, Err}, Result.{IsErr, IsErrAnd}}
 use Rattle.ultra_asm.specs.declared.AsmFaultKind.{AsmFaultKind}
 
 module _ {A : Type 0} where

@@ -1,21 +1,14 @@
 -- the canonical text is written for its program
 use Rattle.std.proofs.Common.{◌≡◌, ℕ, zero, suc, ◌+◌, ◌<◌, ◌≤◌, ◌^◌, Bool, true, false, ◌||◌, List, [], ◌∷◌, ◌++◌, map, length, take, filter, get_or, codes, Option, Some, None, is_some, IsTrue, refl, sym, ◌∙◌, ap, inl, inr, append_assoc, append-nil, subst, IfSome, arith}
-use Rattle.std.specs.List.{AllByRecursion}
-use Rattle.std.specs.Option.{option_map}
-use Rattle.std.specs.Str.{bytes_eq}
-use Rattle.std.proofs.lemmas.Bool.{and_parts, leb-true, cases_eq, eq-eqb, false_from_ne_true}
-use Rattle.std.proofs.lemmas.Slice.Eq.{bytes_eq-Decides}
-use Rattle.ultra_isa.specs.declared.Instr.{Instr}
+use Rattle.std.specs.{List.AllByRecursion, Option.option_map, Str.bytes_eq}
+use Rattle.std.proofs.lemmas.{Bool.{and_parts, leb-true, cases_eq, eq-eqb, false_from_ne_true}, Slice.Eq.bytes_eq-Decides}
+use Rattle.ultra_isa.specs.{declared.Instr.Instr, Program.{jumps_within, all_jump_within, is_program}}
 use Rattle.ultra_isa.specs.declared.Instr.TheVariants as instr
-use Rattle.ultra_isa.specs.Program.{jumps_within, all_jump_within, is_program}
-use Rattle.ultra_asm.specs.Words.{text_words, before_colon, is_name}
+use Rattle.ultra_asm.specs.{Words.{text_words, before_colon, is_name}, Instruction.{mnemonic_word, mnemonic_of, operands_of}}
 use Rattle.ultra_asm.specs.Labels.{if_name, line_label, after_label, statement, one_or_none, instructions_on, defines, definition_from, definition_of, label_pc}
-use Rattle.ultra_asm.specs.Instruction.{mnemonic_word, mnemonic_of, operands_of}
 use Rattle.ultra_asm.specs.ProgramText.{IsInstruction, AreInstructions, has_words, statements, IsLabelled, AreLinesOf, IsProgramText}
 use Rattle.ultra_asm.specs.Listing.{newline, label_text, operand_text, operands_text, instruction_line, jump_target, is_at, is_target, label_if, listing_from, listing_text, AreWritable, IsListable}
-use Rattle.ultra_asm.proofs.Definitions.{Lines, definition_append}
-use Rattle.ultra_asm.proofs.Places.{target_within}
-use Rattle.ultra_asm.proofs.Cutting.{text_next}
+use Rattle.ultra_asm.proofs.{Definitions.{Lines, definition_append}, Places.target_within, Cutting.text_next}
 use Rattle.ultra_asm.proofs.Spelled.{label_name, label_apart, colon_back, label_plain, word_plain, operands_plain, word_no_colon, ArePlaced, operands_back}
 
 -- ---- the words of the canonical lines

@@ -1,21 +1,11 @@
 -- what is written for an operand is read as it again
 use Rattle.std.proofs.Common.{◌≡◌, ℕ, ◌+◌, ◌-◌, ◌<◌, ◌≤◌, ◌^◌, Bool, true, false, not, ◌||◌, List, [], ◌∷◌, ◌++◌, map, length, take, drop, get_or, codes, decimal, Option, Some, None, refl, ◌∙◌, ap, arith, length-append}
-use Rattle.std.specs.List.{list_all}
-use Rattle.std.specs.Int.{IsInRange}
-use Rattle.std.specs.Str.Parse.{AllDigits, digits_value}
-use Rattle.std.proofs.lemmas.Bool.{and_from, eq-eqb, le-leb, lt-ltb, cond-true}
-use Rattle.std.proofs.lemmas.List.Folds.{list_all-append}
-use Rattle.std.proofs.lemmas.List.{take_at, get_or_at}
-use Rattle.std.proofs.lemmas.Fmt.{decimal_is_IsNumeral, length-decimal-le, decimal_injective}
-use Rattle.std.proofs.lemmas.Str.Parse.{digit_from_value}
-use Rattle.ultra_asm.specs.declared.instruction.Mnemonic.{Mnemonic}
+use Rattle.std.specs.{List.list_all, Int.IsInRange, Str.Parse.{AllDigits, digits_value}}
+use Rattle.std.proofs.lemmas.{Bool.{and_from, eq-eqb, le-leb, lt-ltb, cond-true}, List.{Folds.list_all-append, take_at, get_or_at}, Fmt.{decimal_is_IsNumeral, length-decimal-le, decimal_injective}, Str.Parse.digit_from_value}
+use Rattle.ultra_asm.specs.{declared.instruction.{Mnemonic.Mnemonic, Operand.Operand}, Instruction.mnemonic_word, ProgramText.{IsOperand, AreOperands}, Listing.{label_text, operand_text, IsWritable, AreWritable}}
 use Rattle.ultra_asm.specs.declared.instruction.Mnemonic.TheVariants.{Set, Add, AddWord, Subtract, And, ShiftRight, IsBelow, IsEqual, JumpIfZero, JumpIfNotZero, Jump, Number, Size, Load, Store, Faa, Swap, Fence, Halt}
-use Rattle.ultra_asm.specs.declared.instruction.Operand.{Operand}
 use Rattle.ultra_asm.specs.declared.instruction.Operand.TheVariants as operand
 use Rattle.ultra_asm.specs.Words.{is_letter, is_name_byte, is_name, before_colon, has_leading_zero, is_register, register_of, shift_of}
-use Rattle.ultra_asm.specs.Instruction.{mnemonic_word}
-use Rattle.ultra_asm.specs.ProgramText.{IsOperand, AreOperands}
-use Rattle.ultra_asm.specs.Listing.{label_text, operand_text, IsWritable, AreWritable}
 use Rattle.ultra_io.proofs.Numerals.{no_leading_zero, is_number_back, number_back}
 use Rattle.ultra_asm.proofs.Cutting.{IsPlain, ArePlain, is_plain, digits_plain}
 

@@ -1,11 +1,7 @@
 -- the lines of a text, as a loop takes them in order
 use Rattle.std.proofs.Common.{◌≡◌, ℕ, ◌+◌, ◌<◌, ◌≤◌, List, [], map, length, get_or, Bor, Option, Some, None, sym, ◌∙◌, ap, arith}
-use Rattle.std.specs.List.{enumerate_from}
-use Rattle.std.proofs.lemmas.List.{get_or-map, length-map}
-use Rattle.std.proofs.lemmas.List.FromFn.{length-enumerate_from, get_or-enumerate_from}
-use Rattle.std.specs.Iterator.{Yields}
-use Rattle.std.proofs.lemmas.Iterator.{YieldsList}
-use Rattle.std.proofs.lemmas.Iterator.Consumers.{YieldsList-turn, YieldsList-end}
+use Rattle.std.specs.{List.enumerate_from, Iterator.Yields}
+use Rattle.std.proofs.lemmas.{List.{get_or-map, length-map, FromFn.{length-enumerate_from, get_or-enumerate_from}}, Iterator.{YieldsList, Consumers.{YieldsList-turn, YieldsList-end}}}
 use Rattle.ultra_asm.specs.Words.{line_words, lines_of, text_words}
 
 abbrev pub Lent : Type 0

@@ -2,8 +2,7 @@
 use Rattle.std.proofs.Common.{◌≡◌, ℕ, zero, suc, ◌<◌, [], ◌∷◌, codes, Some, None, refl, arith, lit≤}
 use Rattle.ultra_isa.specs.declared.Instr.TheVariants as instr
 use Rattle.ultra_asm.specs.declared.AsmFaultKind.TheVariants.{UnknownWord, BadRegister, BadNumber, UnknownLabel, DoubleLabel, WrongOperands}
-use Rattle.ultra_asm.specs.Words.{text_words}
-use Rattle.ultra_asm.specs.ProgramText.{line_at, IsLabelled, line_fault, IsProgramText}
+use Rattle.ultra_asm.specs.{Words.text_words, ProgramText.{line_at, IsLabelled, line_fault, IsProgramText}}
 
 words : text_words (codes "x:,li r1\t007 # seven\n\n;x") ≡ (codes "x:" ∷ codes "li" ∷ codes "r1" ∷ codes "007" ∷ []) ∷ [] ∷ [] ∷ []
 words = refl

@@ -1,11 +1,6 @@
 -- what is found among the labels of a text; this project's profile
-use Rattle.std.specs.Prelude.{ℕ, List, Option}
-use Rattle.std.specs.List.{find}
-use Rattle.std.specs.Option.{option_map}
-use Rattle.ultra_asm.specs.Label.{has_name, pc_at}
-use Rattle.ultra_asm.specs.Labels.{near_pc}
-use Rattle.ultra_asm.specs.declared.labels.Definition.{Definition}
-use Rattle.ultra_asm.specs.declared.labels.Labels.{Labels}
+use Rattle.std.specs.{Prelude.{ℕ, List, Option}, List.find, Option.option_map}
+use Rattle.ultra_asm.specs.{Label.{has_name, pc_at}, Labels.near_pc, declared.labels.{Definition.Definition, Labels.Labels}}
 
 -- where a name is defined, by the first label of that name
 abbrev pub definition_in : Labels → List ℕ → Option Definition

@@ -3,9 +3,8 @@ use Rattle.std.specs.Prelude.{ℕ, List, [], ◌∷◌, codes, Option, bytes_eq}
 use Rattle.std.specs.List.{find}
 use Rattle.ultra_isa.specs.declared.Instr.{Instr}
 use Rattle.ultra_isa.specs.declared.Instr.TheVariants as instr
-use Rattle.ultra_asm.specs.declared.instruction.Mnemonic.{Mnemonic}
+use Rattle.ultra_asm.specs.declared.instruction.{Mnemonic.Mnemonic, Operand.Operand}
 use Rattle.ultra_asm.specs.declared.instruction.Mnemonic.TheVariants.{Set, Add, AddWord, Subtract, And, ShiftRight, IsBelow, IsEqual, JumpIfZero, JumpIfNotZero, Jump, Number, Size, Load, Store, Faa, Swap, Fence, Halt}
-use Rattle.ultra_asm.specs.declared.instruction.Operand.{Operand}
 use Rattle.ultra_asm.specs.declared.instruction.Operand.TheVariants as operand
 
 abbrev pub mnemonics : List Mnemonic

@@ -1,10 +1,5 @@
 -- the labels of a text as a list; this project's profile
-use Rattle.std.specs.Prelude.{ℕ, Bool, List, bytes_eq, nat_lt}
-use Rattle.std.specs.List.{prefix_len}
-use Rattle.std.specs.declared.cmp.Ordering.{Ordering}
-use Rattle.std.specs.Cmp.Lexicographic.{slice_cmp}
-use Rattle.std.specs.List.Sorted.{IsSortedBy}
-use Rattle.std.specs.Ordering.{is_lt, nat_cmp, ordering_then}
+use Rattle.std.specs.{Prelude.{ℕ, Bool, List, bytes_eq, nat_lt}, List.{prefix_len, Sorted.IsSortedBy}, declared.cmp.Ordering.Ordering, Cmp.Lexicographic.slice_cmp, Ordering.{is_lt, nat_cmp, ordering_then}}
 use Rattle.ultra_asm.specs.declared.labels.Label.{Label}
 
 -- whether it has this name

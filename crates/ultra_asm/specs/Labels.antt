@@ -1,8 +1,7 @@
 -- the labels of a text, and what each of its lines does besides; this project's profile
 use Rattle.std.specs.Prelude.{ℕ, ◌+◌, Bool, false, List, [], ◌∷◌, drop, take, Option, Some, None, is_some, if◌then◌else◌, bytes_eq, min}
 use Rattle.std.specs.Option.{option_map}
-use Rattle.ultra_asm.specs.Words.{before_colon, is_name}
-use Rattle.ultra_asm.specs.declared.labels.Definition.{Definition}
+use Rattle.ultra_asm.specs.{Words.{before_colon, is_name}, declared.labels.Definition.Definition}
 use Rattle.ultra_isa.specs.declared.TheConstants.{MOST_INSTRUCTIONS}
 
 -- a label's word is a name followed directly by `:`

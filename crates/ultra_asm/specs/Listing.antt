@@ -3,12 +3,9 @@ use Rattle.std.specs.Prelude.{ℕ, ◌+◌, ◌^◌, ◌<◌, Bool, true, false,
 use Rattle.std.specs.List.{flat_map, list_any, AllByRecursion}
 use Rattle.ultra_isa.specs.declared.Instr.{Instr}
 use Rattle.ultra_isa.specs.declared.Instr.TheVariants.{Set, Add, AddWord, Subtract, And, ShiftRight, IsBelow, IsEqual, JumpIfZero, JumpIfNotZero, Jump, Number, Size, Load, Store, Faa, Swap, Fence, Halt}
-use Rattle.ultra_asm.specs.declared.instruction.Mnemonic.{Mnemonic}
-use Rattle.ultra_asm.specs.declared.instruction.Operand.{Operand}
+use Rattle.ultra_asm.specs.{declared.{instruction.{Mnemonic.Mnemonic, Operand.Operand}, canonical.Operands.Operands}, Instruction.{mnemonic_word, mnemonic_of, operands_of}}
 use Rattle.ultra_asm.specs.declared.instruction.Operand.TheVariants as operand
-use Rattle.ultra_asm.specs.declared.canonical.Operands.{Operands}
 use Rattle.ultra_asm.specs.declared.canonical.Operands.TheVariants as operands
-use Rattle.ultra_asm.specs.Instruction.{mnemonic_word, mnemonic_of, operands_of}
 pub use Rattle.ultra_msg.specs.Bytes.{newline}
 
 -- the label of a program counter

@@ -1,17 +1,11 @@
 -- the text of a program: its grammar and its faults; this project's profile
 use Rattle.std.specs.Prelude.{◌≡◌, ℕ, ◌+◌, ◌-◌, ◌<◌, ◌≤◌, ◌⊎◌, Bool, true, false, not, ◌==◌, List, [], ◌∷◌, length, filter, map, take, slice_index_or, Option, Some, None, Result, Ok, Err, IfSome, nat_le}
-use Rattle.ultra_isa.specs.declared.Instr.{Instr}
-use Rattle.ultra_asm.specs.declared.AsmFault.{AsmFault}
-use Rattle.ultra_asm.specs.declared.AsmFaultKind.{AsmFaultKind}
+use Rattle.ultra_isa.specs.declared.{Instr.Instr, TheConstants.MOST_INSTRUCTIONS}
+use Rattle.ultra_asm.specs.{declared.{AsmFault.AsmFault, AsmFaultKind.AsmFaultKind, instruction.{Mnemonic.Mnemonic, Operand.Operand}}, AsmFault.no_memory, Labels.{statement, label_pc, is_defined_before}}
 use Rattle.ultra_asm.specs.declared.AsmFaultKind.TheVariants.{UnknownWord, BadRegister, BadNumber, UnknownLabel, DoubleLabel, TooLong, WrongOperands}
-use Rattle.ultra_asm.specs.declared.instruction.Mnemonic.{Mnemonic}
-use Rattle.ultra_asm.specs.declared.instruction.Operand.{Operand}
 use Rattle.ultra_asm.specs.declared.instruction.Operand.TheVariants as operand
-use Rattle.ultra_asm.specs.AsmFault.{no_memory}
 use Rattle.ultra_asm.specs.Words.{text_words, before_colon, is_name, decimal_value, register_of, shift_of}
-use Rattle.ultra_asm.specs.Labels.{statement, label_pc, is_defined_before}
 use Rattle.ultra_asm.specs.Instruction.{mnemonic_word, mnemonic_named, mnemonic_of, operands_of, Sort, a_register, a_number, a_shift, a_label, sorts_of}
-use Rattle.ultra_isa.specs.declared.TheConstants.{MOST_INSTRUCTIONS}
 
 -- ---- the grammar of an instruction, in a text whose labels are at these program counters
 module _ (pcs : List ℕ → Option ℕ) where

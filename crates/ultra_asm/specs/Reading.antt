@@ -3,14 +3,9 @@ use Rattle.std.specs.Prelude.{ℕ, Bool, true, false, List, [], ◌∷◌, Optio
 use Rattle.std.specs.Option.{option_map}
 use Rattle.ultra_isa.specs.declared.Instr.{Instr}
 use Rattle.ultra_isa.specs.declared.Instr.TheVariants as instr
-use Rattle.ultra_asm.specs.declared.AsmFaultKind.{AsmFaultKind}
+use Rattle.ultra_asm.specs.{declared.{AsmFaultKind.AsmFaultKind, instruction.Mnemonic.Mnemonic, labels.Definition.Definition}, Words.{decimal_value, register_of, shift_of, before_colon, is_name}, Labels.{statement, near_pc}, Instruction.mnemonic_named}
 use Rattle.ultra_asm.specs.declared.AsmFaultKind.TheVariants.{UnknownWord, BadRegister, BadNumber, UnknownLabel, DoubleLabel, TooLong, WrongOperands}
-use Rattle.ultra_asm.specs.declared.instruction.Mnemonic.{Mnemonic}
 use Rattle.ultra_asm.specs.declared.instruction.Mnemonic.TheVariants.{Set, Add, AddWord, Subtract, And, ShiftRight, IsBelow, IsEqual, JumpIfZero, JumpIfNotZero, Jump, Number, Size, Load, Store, Faa, Swap, Fence, Halt}
-use Rattle.ultra_asm.specs.Words.{decimal_value, register_of, shift_of, before_colon, is_name}
-use Rattle.ultra_asm.specs.Labels.{statement, near_pc}
-use Rattle.ultra_asm.specs.declared.labels.Definition.{Definition}
-use Rattle.ultra_asm.specs.Instruction.{mnemonic_named}
 
 -- the program counter of each label
 abbrev pub LabelPcs : Type 0

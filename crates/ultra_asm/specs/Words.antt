@@ -1,7 +1,6 @@
 -- lines and their words: names, numbers and registers; this project's profile
 use Rattle.std.specs.Prelude.{ℕ, ◌-◌, Bool, not, ◌&&◌, ◌||◌, ◌==◌, List, length, filter, map, Option, Some, None, if◌then◌else◌, drop, take, nat_lt, nat_le, slice_index}
-use Rattle.std.specs.Str.Parse.{digits_value}
-use Rattle.std.specs.List.{slice_split, before_first, list_all}
+use Rattle.std.specs.{Str.Parse.digits_value, List.{slice_split, before_first, list_all}}
 pub use Rattle.ultra_io.specs.Decimal.{is_number, decimal_value, has_leading_zero}
 
 -- a blank, a tab, byte 13 or a comma

@@ -1,8 +1,7 @@
 //! The canonical text of a program.
 
 ghost use Rattle.std.specs.Prelude.{◌≡◌, ℕ, ◌+◌, ◌++◌, ◌≤◌, slice_index_or, [], ◌∷◌, false, codes, decimal, OnOk, OnErr};
-ghost use Rattle.ultra_asm.specs.Instruction.{mnemonic_of, operands_of};
-ghost use Rattle.ultra_asm.specs.ProgramText.{IsProgramText};
+ghost use Rattle.ultra_asm.specs.{Instruction.{mnemonic_of, operands_of}, ProgramText.IsProgramText};
 ghost use Rattle.ultra_asm.specs.Listing.{label_text, label_line, label_if, operand_list, operand_text, operands_text, line_text, instruction_line, jump_target, is_target, listing_text, AreWritable, IsListable};
 ghost use Rattle.ultra_msg.specs.Bytes.{TakesPrefix};
 ghost use Rattle.ultra_io.specs.TextBuffer.{Writes};

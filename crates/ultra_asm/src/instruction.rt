@@ -1,7 +1,6 @@
 //! The words of an instruction: its mnemonic and its operands.
 
-ghost use Rattle.std.specs.Prelude.{◌≡◌, bytes_eq};
-ghost use Rattle.std.specs.List.{find};
+ghost use Rattle.std.specs.{Prelude.{◌≡◌, bytes_eq}, List.find};
 ghost use Rattle.ultra_asm.specs.Instruction.{mnemonic_word, mnemonic_named};
 
 use ultra_msg::{Register, Shift, Word};

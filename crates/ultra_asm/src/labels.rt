@@ -1,11 +1,7 @@
 //! The labels of a text.
 
-ghost use Rattle.std.specs.Prelude.{◌≡◌, ℕ, List, map, IfOk};
-ghost use Rattle.std.specs.List.Sorted.{IsNonDecreasing};
-ghost use Rattle.std.specs.Option.{option_copied};
-ghost use Rattle.ultra_asm.specs.Words.{text_words};
-ghost use Rattle.ultra_asm.specs.Label.{pc_at, AreInOrder};
-ghost use Rattle.ultra_asm.specs.Labels.{line_label, statement, near_definition_of};
+ghost use Rattle.std.specs.{Prelude.{◌≡◌, ℕ, List, map, IfOk}, List.Sorted.IsNonDecreasing, Option.option_copied};
+ghost use Rattle.ultra_asm.specs.{Words.text_words, Label.{pc_at, AreInOrder}, Labels.{line_label, statement, near_definition_of}};
 
 use crate::words::{before_colon, first_words, is_name};
 use std::alloc::{AllocError, Global};

@@ -15,8 +15,7 @@ use ultra_msg::{Register, Shift, Word};
 /// What can be an operand of an instruction.
 pub trait Readable: Sized {
     ghost use Rattle.std.specs.Prelude.{ℕ, List, Result};
-    ghost use Rattle.ultra_asm.specs.declared.AsmFaultKind.{AsmFaultKind};
-    ghost use Rattle.ultra_asm.specs.Reading.{LabelPcs};
+    ghost use Rattle.ultra_asm.specs.{declared.AsmFaultKind.AsmFaultKind, Reading.LabelPcs};
 
     /// What a word is read as, given the program counter of each label.
     ghost reading: { LabelPcs → List ℕ → Result Self AsmFaultKind };

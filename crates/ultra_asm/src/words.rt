@@ -1,8 +1,6 @@
 //! The words of a line.
 
-ghost use Rattle.std.specs.Prelude.{◌≡◌, map, take, position, IfOk};
-ghost use Rattle.std.specs.List.{before_first, list_all};
-ghost use Rattle.std.specs.Option.{option_copied};
+ghost use Rattle.std.specs.{Prelude.{◌≡◌, map, take, position, IfOk}, List.{before_first, list_all}, Option.option_copied};
 ghost use Rattle.ultra_asm.specs.Words.{is_separator, begins_comment, line_words, is_letter, is_name_byte, is_name, before_colon, register_of, shift_of};
 
 use std::alloc::{AllocError, Global};

@@ -1,13 +1,17 @@
 -- The units of a machine before its first cycle. A module has the initial values; and one block
 -- that holds all units is the machine at its start.
 use Rattle.std.proofs.Common.{◌≡◌, ◌≢◌, ℕ, ◌+◌, ◌*◌, ◌/◌, ◌%◌, ◌<◌, List, [], ◌∷◌, ◌++◌, true, false, None, length, set, take, get_or, refl, ap, arith, get_or-set_same, get_or-set_other, subst, sym, ◌≤◌, nat_lt, ◌^◌, Some, replicate, ◌==◌, Option}
-use Rattle.std.proofs.{Math.Path.fun_ext, lemmas.Bool.Decides.nat_tests, lemmas.List.ext_get_or, lemmas.List.get_or-replicate, lemmas.List.length-replicate, lemmas.List.length-set, lemmas.List.take_all, lemmas.List.take_more, lemmas.List.get_or_past, lemmas.List.Elements.All-get_or, lemmas.Nat.div-mul-add, lemmas.Nat.div_below, lemmas.Nat.mod-mul-add}
-use Rattle.ultra_model.{proofs.Each.places_at, proofs.Each.length-places, proofs.Sound.sound-start, specs.Machine.given_value, specs.Machine.Settings, specs.Machine.start, specs.Places.places, specs.Ranges.AreInRange}
+use Rattle.std.proofs.{Math.Path.fun_ext, lemmas.{Bool.Decides.nat_tests, List.Elements.All-get_or, Nat.{div-mul-add, div_below, mod-mul-add}}}
+use Rattle.std.proofs.lemmas.List.{ext_get_or, get_or-replicate, length-replicate, length-set, take_all, take_more, get_or_past}
+use Rattle.ultra_model.proofs.{Each.{places_at, length-places}, Sound.sound-start}
+use Rattle.ultra_model.specs.{Machine.{given_value, Settings, start}, Places.places, Ranges.AreInRange}
 use Rattle.ultra_mem.specs.Serve.{fresh_module}
 use Rattle.ultra_block_core.specs.Building.{empty_block}
-use Rattle.ultra_cycle_law.{proofs.AtFrame.whole_alike, specs.Whole.empty_switch, specs.Whole.whole}
+use Rattle.ultra_cycle_law.proofs.AtFrame.{whole_alike}
+use Rattle.ultra_cycle_law.specs.Whole.{empty_switch, whole}
 use Rattle.ultra_partition.proofs.Common.{AreAlike, BlockState, Instr, by_kind, frame_of, home, machine_in, module_stands, switch_count, switch_stands, unit_count}
-use Rattle.ultra_block.{proofs.Seen.one_lists, specs.Fresh.initial_module, specs.Fresh.first_module, specs.Fresh.first_element, specs.State.MakeUp}
+use Rattle.ultra_block.proofs.Seen.{one_lists}
+use Rattle.ultra_block.specs.{Fresh.{initial_module, first_module, first_element}, State.MakeUp}
 
 given_more : (values : List (ℕ × ℕ)) (x : ℕ × ℕ) (a v : ℕ) → given_value (values ++ x ∷ []) a v ≡ elim (x.0 == a) [ true ↦ x.1 | false ↦ given_value values a v ]
 given_more [] x a v = refl

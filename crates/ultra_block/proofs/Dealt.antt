@@ -1,11 +1,12 @@
 -- A machine that is in one block is dealt to the blocks that a partition names: it stays the same machine.
 use Rattle.std.proofs.Common.{◌≡◌, ℕ, ◌+◌, ◌<◌, ◌≤◌, List, [], ◌∷◌, None, length, map, set, arith, get_or-set_same, get_or-set_other, ◌==◌, ◌&&◌, nat_lt, cond, refl, true, All}
-use Rattle.std.proofs.lemmas.{Bool.eq-eqb, Bool.Decides.nat_tests, List.get_or-replicate, List.get_or_past, List.length-replicate, List.length-set, List.append-nil}
-use Rattle.ultra_partition.specs.Merging.{merged}
+use Rattle.std.proofs.lemmas.{Bool.{eq-eqb, Decides.nat_tests}, List.{get_or-replicate, get_or_past, length-replicate, length-set, append-nil}}
+use Rattle.ultra_partition.specs.{Merging.merged, Cut.is_partition, Events.{merged_events, merged_stops}}
 use Rattle.ultra_topology.proofs.Marks.{length-put_on}
 use Rattle.ultra_block_core.specs.Building.{empty_block, with_unit, without_unit}
 use Rattle.ultra_cycle_law.proofs.AtFrame.{whole_alike}
-use Rattle.ultra_partition.{proofs.Columns.column_empty, proofs.Common.AreAlike, proofs.Common.AreWhole, proofs.Common.BlockState, proofs.Common.Instr, proofs.Common.IsShaped, proofs.Common.OfEach, proofs.Common.Settings, proofs.Common.block_at, proofs.Common.by_kind, proofs.Common.event_rank, proofs.Common.frame_of, proofs.Common.value_or, proofs.Common.home, proofs.Common.machine_in, proofs.Common.no_block, proofs.Common.put_apart, proofs.Common.put_there, proofs.Common.is_in_block, proofs.Common.stop_rank, proofs.Common.unit_count, proofs.Happenings.joined_home, proofs.Units.Sort, proofs.Units.elements, proofs.Units.modules, proofs.Units.switches, specs.Cut.is_partition, specs.Events.merged_events, specs.Events.merged_stops}
+use Rattle.ultra_partition.proofs.{Columns.column_empty, Happenings.joined_home, Units.{Sort, elements, modules, switches}}
+use Rattle.ultra_partition.proofs.Common.{AreAlike, AreWhole, BlockState, Instr, IsShaped, OfEach, Settings, block_at, by_kind, event_rank, frame_of, value_or, home, machine_in, no_block, put_apart, put_there, is_in_block, stop_rank, unit_count}
 use Rattle.ultra_block.specs.{Dealt.IsLastNamed, State.MakeUp}
 
 ruleset moving = (nat_tests, put_there, put_apart, length-set, get_or-set_same, get_or-set_other)

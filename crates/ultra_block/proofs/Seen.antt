@@ -2,8 +2,9 @@
 use Rattle.std.proofs.Common.{◌≡◌, ℕ, List, length, refl, arith}
 use Rattle.std.proofs.lemmas.{Grind.common_steps, List.get_or_default}
 use Rattle.ultra_partition.proofs.Merged.{merged_alone}
-use Rattle.ultra_cycle_law.{proofs.AtFrame.memory_module_is, proofs.AtFrame.element_is, proofs.AtFrame.lane_is, proofs.AtFrame.replies_is, proofs.AtFrame.size_is, specs.Whole.Settings, specs.Whole.whole}
-use Rattle.ultra_partition.specs.{Cut.BlockState, Cut.block_at, Events.IsInOrder, Events.merged_events, Events.merged_stops, Halves.OfEach, Moments.machine_in}
+use Rattle.ultra_cycle_law.proofs.AtFrame.{memory_module_is, element_is, lane_is, replies_is, size_is}
+use Rattle.ultra_cycle_law.specs.Whole.{Settings, whole}
+use Rattle.ultra_partition.specs.{Cut.{BlockState, block_at}, Events.{IsInOrder, merged_events, merged_stops}, Halves.OfEach, Moments.machine_in}
 
 pub cycles_are : (c : Settings) (partition : List ℕ) (n : ℕ) (bs : List BlockState) → (machine_in c partition n bs).cycles ≡ n
 unfolding whole

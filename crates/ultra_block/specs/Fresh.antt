@@ -2,7 +2,7 @@
 use Rattle.std.specs.Prelude.{ℕ, ◌+◌, ◌*◌, List, None}
 use Rattle.ultra_mem.specs.Serve.{ModuleState}
 use Rattle.ultra_isa.specs.Step.{fresh_core}
-use Rattle.ultra_model.specs.{Machine.Settings, Machine.given_value, Machine.site, Machine.size, Places.places}
+use Rattle.ultra_model.specs.{Machine.{Settings, given_value, site, size}, Places.places}
 use Rattle.ultra_pni.specs.Interface.{empty_interface}
 use Rattle.ultra_unit_steps.specs.declared.elements.ProcessingElement.{ProcessingElement}
 

@@ -1,11 +1,10 @@
 -- a whole machine cut into blocks, as contracts see it
 use Rattle.std.specs.Prelude.{◌≡◌, ℕ, ◌+◌, ◌≤◌, List, length}
 use Rattle.ultra_isa.specs.declared.Instr.{Instr}
-use Rattle.ultra_model.specs.{Machine.Settings, Machine.Machine, Phases.cycle, declared.Stop.Stop}
-use Rattle.ultra_partition.specs.{Cut.BlockState, Events.event_rank, Events.event_rank_count, Moments.AreWhole, Moments.machine_in}
+use Rattle.ultra_model.specs.{Machine.{Settings, Machine}, Phases.cycle, declared.Stop.Stop}
+use Rattle.ultra_partition.specs.{Cut.BlockState, Events.{event_rank, event_rank_count}, Moments.{AreWhole, machine_in}, Merging.{Remainder, merged}}
 use Rattle.ultra_msg.specs.declared.Event.{Event}
-use Rattle.ultra_partition.specs.Merging.{Remainder, merged}
-use Rattle.ultra_block.specs.{declared.blocks.Parts.Parts, declared.ranks.ByElement.ByElement, declared.ranks.ByRules.ByRules}
+use Rattle.ultra_block.specs.declared.{blocks.Parts.Parts, ranks.{ByElement.ByElement, ByRules.ByRules}}
 
 -- its settings, its program, the block of each unit, how many blocks there are, and the machine of
 -- the definition, which is the same for every partition

@@ -1,11 +1,12 @@
 //! The whole machine, cut into blocks.
 
 ghost use Rattle.std.specs.Prelude.{◌≡◌, ◌-◌, ◌^◌, ◌<◌, ◌↔◌, ◌==◌, false, length, replicate, true, IfErr, IfOk, IsErrOf, OnOk};
-ghost use Rattle.ultra_model.specs.{Machine.module_at, Machine.element_at, Machine.is_quiet, Machine.lane_at, Machine.replies_at, Machine.site, Machine.start, Phases.cycle as next_cycle};
+ghost use Rattle.ultra_model.specs.Machine.{module_at, element_at, is_quiet, lane_at, replies_at, site, start};
+ghost use Rattle.ultra_model.specs.Phases.{cycle as next_cycle};
 ghost use Rattle.ultra_topology.specs.Numbers.{unit_count};
-ghost use Rattle.ultra_partition.specs.{Cut.block_at, Cut.home, Cut.is_partition, Holding.holds};
+ghost use Rattle.ultra_partition.specs.{Cut.{block_at, home, is_partition}, Holding.holds};
 ghost use Rattle.ultra_cycle_law.specs.Frame.{at_port};
-ghost use Rattle.ultra_block.specs.{Dealt.IsLastNamed, State.AreParts, State.BlocksState, State.events_left, State.put_together, State.stops_left};
+ghost use Rattle.ultra_block.specs.{Dealt.IsLastNamed, State.{AreParts, BlocksState, events_left, put_together, stops_left}};
 ghost use Rattle.ultra_block_core.specs.Holding.{IsSetOf};
 ghost use Rattle.ultra_unit_steps.specs.Elements.{element_of};
 

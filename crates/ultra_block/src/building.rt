@@ -4,7 +4,7 @@ ghost use Rattle.std.specs.Prelude.{◌≡◌, ◌^◌, ◌<◌, ◌∷◌, [], 
 ghost use Rattle.ultra_topology.specs.Numbers.{unit_count};
 ghost use Rattle.ultra_block_core.specs.Building.{empty_block};
 ghost use Rattle.ultra_model.specs.Machine.{start};
-ghost use Rattle.ultra_block.specs.{Fresh.first_module, Fresh.first_element, State.MakeUp};
+ghost use Rattle.ultra_block.specs.{Fresh.{first_module, first_element}, State.MakeUp};
 
 use std::alloc::{AllocError, Global};
 use ultra_block_core::Block;

@@ -4,7 +4,7 @@ ghost use Rattle.std.specs.Prelude.{◌≡◌, true, ℕ, ◌-◌, ◌^◌, ◌<
 ghost use Rattle.ultra_isa.specs.declared.Instr.{Instr};
 ghost use Rattle.ultra_model.specs.Machine.{Settings};
 ghost use Rattle.ultra_topology.specs.Numbers.{IsSmall};
-ghost use Rattle.ultra_partition.specs.{Halves.AllCanMake, Halves.all_after_own_half, Moments.AreWhole};
+ghost use Rattle.ultra_partition.specs.{Halves.{AllCanMake, all_after_own_half}, Moments.AreWhole};
 ghost use Rattle.ultra_block.specs.State.{MakesCycle};
 
 use ultra_block_core::{Block, Half, Rooms};

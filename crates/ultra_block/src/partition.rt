@@ -2,10 +2,9 @@
 
 ghost use Rattle.std.specs.Prelude.{◌≡◌, ℕ, ◌<◌, ◌≤◌, All, nat_lt};
 ghost use Rattle.std.specs.List.{list_all};
-ghost use Rattle.ultra_topology.specs.Numbers.{unit_count};
+ghost use Rattle.ultra_topology.specs.{Numbers.unit_count, declared.TheConstants.MOST_UNITS};
 ghost use Rattle.ultra_partition.specs.Cut.{is_partition};
 ghost use Rattle.ultra_block.specs.Dealt.{IsLastNamed};
-ghost use Rattle.ultra_topology.specs.declared.TheConstants.{MOST_UNITS};
 
 use std::alloc::AllocError;
 use thiserror::Error;

@@ -1,11 +1,12 @@
 -- What a block knows of its units is kept when one of them is put anew and noted, and says which rooms are its own and what leads elsewhere.
 use Rattle.std.proofs.Common.{◌≡◌, ◌≢◌, ℕ, ◌-◌, ◌^◌, ◌<◌, ◌≤◌, List, [], ◌∷◌, Bool, true, false, ◌↔◌, Option, None, Some, set, refl, sym, ◌∙◌, ap, arith, get_or-set_same, get_or-set_other, ◌&&◌, slice_index_or, IsTrue, not, IfSome, length, vec_capacity}
-use Rattle.ultra_block_core.proofs.Common.{cases_eq, ForSome, length-set, Switch, ModuleState, Instr, ProcessingElement, switch_count, has_unit, IsFirstFrom, is_at_rest, Ports, IsModule, IsElement, of_unit, unit_is, unit_of_element, unit_of_module, unit_of_switch, AreNoted, UnitFacts, facts_at, no_facts, switch_facts, module_facts, element_facts, AreOthersAtRest, IsConsistentBlock, seen_of, own_switch, own_module, own_element, AreTargets, IsNextAway, AreOwnRooms, Rooms}
-use Rattle.std.proofs.lemmas.List.{Elements.All-from_get_or, Folds.list_any_at, Folds.list_any_none}
+use Rattle.ultra_block_core.proofs.Common.{cases_eq, ForSome, length-set, Switch, ModuleState, Instr, ProcessingElement, switch_count, has_unit, IsFirstFrom, is_at_rest, Ports, IsModule, IsElement, of_unit, unit_is, unit_of_element, unit_of_module, unit_of_switch, AreNoted, UnitFacts, facts_at, no_facts, switch_facts, module_facts, element_facts, AreOthersAtRest, IsConsistentBlock, seen_of, own_switch, own_module, own_element, AreTargets, IsNextAway, AreOwnRooms, Rooms, sends_replies, sends_requests}
+use Rattle.std.proofs.lemmas.List.{Elements.All-from_get_or, Folds.{list_any_at, list_any_none}}
 use Rattle.std.specs.List.{list_all, list_any}
-use Rattle.ultra_block_core.proofs.{Common.sends_replies, Common.sends_requests, Visited.sends_no_reply, Visited.sends_no_request}
-use Rattle.ultra_topology.{proofs.Readers.few_units, proofs.Set.none_there, proofs.Visits.none_to_do, specs.Visits.after_units, specs.Links.LinksState, specs.Numbers.IsSmall, specs.Numbers.element_number, specs.Set.HasNoneFrom}
-use Rattle.ultra_block_core.specs.{declared.block.Block.TheInside.Inside as Block, declared.sets.Sets.Sets, Prelude.quiet_element, Quiet.is_running, Quiet.or_elsewhere, Quiet.quiet_block, Rooms.AreOpenFrom, Sets.if_here}
+use Rattle.ultra_block_core.proofs.Visited.{sends_no_reply, sends_no_request}
+use Rattle.ultra_topology.proofs.{Readers.few_units, Set.none_there, Visits.none_to_do}
+use Rattle.ultra_topology.specs.{Visits.after_units, Links.LinksState, Numbers.{IsSmall, element_number}, Set.HasNoneFrom}
+use Rattle.ultra_block_core.specs.{declared.{block.Block.TheInside.Inside as Block, sets.Sets.Sets}, Prelude.quiet_element, Quiet.{is_running, or_elsewhere, quiet_block}, Rooms.AreOpenFrom, Sets.if_here}
 
 -- ---- facts of units, where `fs`, `fb` and `fe` give those of a switch, of a module and of a processing element
 module _ (d : ℕ) {S B E F : Type 0} (fs : Option S → F) (fb : Option B → F) (fe : Option E → F) (none : F) where

@@ -4,8 +4,9 @@
 use Rattle.std.proofs.Common.{[], ◌≡◌, ◌≢◌, ℕ, ◌+◌, ◌*◌, ◌^◌, ◌<◌, ◌≤◌, List, ◌++◌, Option, Some, None, length, length-append, set, get_or-set_same, get_or-set_other, arith, slice_index_or}
 use Rattle.ultra_block_core.proofs.Common.{length-set, append-nil, Event, Stop, Switch, Ports, ModuleState, switch_count, link_number, module_number, element_number, unit_count, of_unit, unit_of, stage_of, index_of, on_link, on_both, is_switch, unit_is, unit_of_switch, unit_of_module, unit_of_element, AreRead, at_both, ports, ProcessingElement}
 use Rattle.ultra_topology.specs.declared.unit.Unit.TheVariants as unit
-use Rattle.ultra_topology.{proofs.Put.has_places, proofs.Put.places_of, proofs.Put.writer, proofs.Put.written, proofs.Put.written_behind, specs.Visits.after_units}
-use Rattle.ultra_block_core.proofs.{Few.few_entries, Once.all_keep, Once.changed_once, Once.entries_before, Once.all_entries}
+use Rattle.ultra_topology.proofs.Put.{has_places, places_of, writer, written, written_behind}
+use Rattle.ultra_topology.specs.Visits.{after_units}
+use Rattle.ultra_block_core.proofs.{Few.few_entries, Once.{all_keep, changed_once, entries_before, all_entries}}
 
 -- the units of a block, what is on its links of one kind, and what it lists
 pub record Seen (M : Type 0) : Type 0 where

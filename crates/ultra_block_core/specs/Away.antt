@@ -1,6 +1,6 @@
 -- which unit is in a block, and what leads from it to units elsewhere
 use Rattle.std.specs.Prelude.{◌≡◌, ℕ, ◌≤◌, ◌<◌, Bool, false, List, Option, is_some}
-use Rattle.ultra_block_core.specs.{Prelude.Ports, Prelude.unit_of, BlockState.BlockState, BlockState.own_switch, BlockState.own_module, BlockState.own_element}
+use Rattle.ultra_block_core.specs.{Prelude.{Ports, unit_of}, BlockState.{BlockState, own_switch, own_module, own_element}}
 use Rattle.ultra_topology.specs.declared.unit.Unit.TheVariants as unit
 pub use Rattle.ultra_topology.specs.Inlets.{reply_inlets, request_inlets, taken_by_turns, put_on_both, AreEmpty}
 use Rattle.ultra_topology.specs.declared.TheConstants.{MOST_UNITS}

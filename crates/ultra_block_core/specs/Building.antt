@@ -1,6 +1,6 @@
 -- a block without units, and units that go from one block to another
 use Rattle.std.specs.Prelude.{ℕ, ◌+◌, ◌*◌, ◌^◌, List, [], None, replicate, slice_set}
-use Rattle.ultra_block_core.specs.{Prelude.Instr, Prelude.switch_count, Prelude.unit_of, Prelude.put_on, BlockState.BlockState, BlockState.own_switch, BlockState.own_module, BlockState.own_element}
+use Rattle.ultra_block_core.specs.{Prelude.{Instr, switch_count, unit_of, put_on}, BlockState.{BlockState, own_switch, own_module, own_element}}
 use Rattle.ultra_topology.specs.declared.unit.Unit.TheVariants as unit
 
 -- of a machine of d stages that runs this program, before its first cycle

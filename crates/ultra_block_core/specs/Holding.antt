@@ -1,7 +1,7 @@
 -- which units of a block hold something, and which have nothing to do in a half of a cycle
 use Rattle.std.specs.Prelude.{◌≡◌, ℕ, List, Bool, false, IsTrue, is_some}
 use Rattle.ultra_block_core.specs.Prelude.{ForSome, AreEmpty, reply_inlets, request_inlets, IsElement, is_at_rest, Switch, ModuleState, ProcessingElement, holds_replies, holds_requests, keeps_records, holds_request, has_unit, of_unit}
-use Rattle.ultra_block_core.specs.{declared.held.Held.Held, declared.held.Held.TheVariants.Reply, declared.held.Held.TheVariants.Request, declared.held.Held.TheVariants.Record, Sets.if_here, Sets.would_serve, BlockState.BlockState, BlockState.own_switch, BlockState.own_module, BlockState.own_element}
+use Rattle.ultra_block_core.specs.{declared.held.Held.{Held, TheVariants.{Reply, Request, Record}}, Sets.{if_here, would_serve}, BlockState.{BlockState, own_switch, own_module, own_element}}
 
 -- of a unit of each kind
 abbrev pub switch_holds : Held → Switch → Bool

@@ -1,6 +1,7 @@
 -- a half of a cycle, whichever it is, made by a block
 use Rattle.std.specs.Prelude.{◌≡◌, ℕ, ◌-◌, ◌^◌, ◌<◌, List}
-use Rattle.ultra_block_core.specs.{Prelude.Instr, Prelude.after_units, declared.half.Half.Half, declared.half.Half.TheVariants.SendReplies, declared.half.Half.TheVariants.TakeReplies, declared.half.Half.TheVariants.Serve, declared.half.Half.TheVariants.SendRequests, declared.half.Half.TheVariants.TakeRequests, declared.half.Half.TheVariants.Execute, declared.rooms.Rooms.Rooms, BlockState.BlockState, BlockState.HasEventRoom, RepliesSent.without_events, RepliesSent.sends_replies, RepliesTaken.CanTakeRepliesAt, RepliesTaken.takes_replies, Serving.serves, RequestsSent.sends_requests, RequestsTaken.CanTakeRequestsAt, RequestsTaken.takes_requests, Execution.CanExecuteAt, Execution.counted, Execution.executes}
+use Rattle.ultra_block_core.specs.{Prelude.{Instr, after_units}, declared.{half.Half.Half, rooms.Rooms.Rooms}, BlockState.{BlockState, HasEventRoom}, RepliesSent.{without_events, sends_replies}, RepliesTaken.{CanTakeRepliesAt, takes_replies}, Serving.serves, RequestsSent.sends_requests, RequestsTaken.{CanTakeRequestsAt, takes_requests}, Execution.{CanExecuteAt, counted, executes}}
+use Rattle.ultra_block_core.specs.declared.half.Half.TheVariants.{SendReplies, TakeReplies, Serve, SendRequests, TakeRequests, Execute}
 use Rattle.ultra_topology.specs.declared.TheConstants.{MOST_UNITS}
 
 -- a fact is true at each unit

@@ -1,6 +1,7 @@
 -- a block in which nothing is left to do
 use Rattle.std.specs.Prelude.{Bool, true, not, ◌&&◌, Option, Some, None}
-use Rattle.ultra_block_core.specs.{Prelude.ProcessingElement, Prelude.has_stopped, Prelude.list_all, Prelude.quiet_switch, Prelude.quiet_module, Prelude.quiet_element, BlockState.BlockState}
+use Rattle.ultra_block_core.specs.Prelude.{ProcessingElement, has_stopped, list_all, quiet_switch, quiet_module, quiet_element}
+use Rattle.ultra_block_core.specs.BlockState.{BlockState}
 
 -- a test is true of a unit, or the unit is elsewhere
 abbrev pub or_elsewhere : {X : Type 0} → (X → Bool) → Option X → Bool

@@ -1,6 +1,7 @@
 -- what blocks note of their rooms
 use Rattle.std.specs.Prelude.{◌≡◌, ℕ, List, ◌^◌, ◌<◌, not, ◌||◌, is_some, replicate}
-use Rattle.ultra_block_core.specs.{Prelude.HasNoneFrom, Prelude.Ports, Prelude.has_unit, Prelude.switch_count, Prelude.module_number, Prelude.has_reply_room, Prelude.has_request_room, Sets.if_here, BlockState.BlockState, BlockState.own_switch, BlockState.own_module, declared.rooms.Rooms.Rooms}
+use Rattle.ultra_block_core.specs.Prelude.{HasNoneFrom, Ports, has_unit, switch_count, module_number, has_reply_room, has_request_room}
+use Rattle.ultra_block_core.specs.{Sets.if_here, BlockState.{BlockState, own_switch, own_module}, declared.rooms.Rooms.Rooms}
 
 -- a block has noted which of its units have no room; of the others it leaves what was noted
 pub record HasNoted (b : BlockState) (old now : Rooms) : Type 0 where

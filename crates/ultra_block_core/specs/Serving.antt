@@ -1,6 +1,6 @@
 -- the half of a cycle in which modules serve
 use Rattle.std.specs.Prelude.{ℕ, [], ◌∷◌, ◌++◌, Some, None, slice_set}
-use Rattle.ultra_block_core.specs.{Prelude.serve, Prelude.served, Prelude.present, Prelude.serving, Prelude.of_unit, BlockState.BlockState, BlockState.own_module}
+use Rattle.ultra_block_core.specs.{Prelude.{serve, served, present, serving, of_unit}, BlockState.{BlockState, own_module}}
 
 -- ---- module m
 abbrev pub module_serves : ℕ → BlockState → BlockState

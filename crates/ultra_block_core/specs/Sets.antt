@@ -1,7 +1,8 @@
 -- what a block knows of its units
 use Rattle.std.specs.Prelude.{◌≡◌, ◌≢◌, ℕ, ◌^◌, Bool, false, not, ◌&&◌, ◌||◌, length, Option, Some, None, is_some, vec_capacity}
 use Rattle.ultra_block_core.specs.Prelude.{Switch, ModuleState, has_unit, has_reply_room, has_request_room, holds_replies, holds_requests, keeps_records, holds_request, ProcessingElement, switch_count, of_unit}
-use Rattle.ultra_block_core.specs.{declared.sets.Sets.Sets, declared.block.Block.TheInside.Inside as Block, BlockState.AreOthersAtRest, BlockState.BlockState, BlockState.own_switch, BlockState.own_module, BlockState.own_element, BlockState.most_events, BlockState.most_stops, Quiet.is_running}
+use Rattle.ultra_block_core.specs.{declared.{sets.Sets.Sets, block.Block.TheInside.Inside as Block}, Quiet.is_running}
+use Rattle.ultra_block_core.specs.BlockState.{AreOthersAtRest, BlockState, own_switch, own_module, own_element, most_events, most_stops}
 
 -- what the sets of a block say of one unit
 pub record UnitFacts : Type 0 where

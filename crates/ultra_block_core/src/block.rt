@@ -1,7 +1,7 @@
 //! Blocks: some of the units of a machine.
 
 ghost use Rattle.std.specs.Prelude.{◌≡◌, true, Some, is_some};
-ghost use Rattle.ultra_block_core.specs.{Prelude.IsUnit, Prelude.unit_of, BlockState.own_switch, BlockState.own_module, BlockState.own_element, Shape.IsShaped};
+ghost use Rattle.ultra_block_core.specs.{Prelude.{IsUnit, unit_of}, BlockState.{own_switch, own_module, own_element}, Shape.IsShaped};
 
 use crate::sets::Sets;
 use std::marker::Model;
@@ -48,7 +48,7 @@ pub struct Block {
 }
 
 impl Model for Block {
-    ghost use Rattle.ultra_block_core.specs.{BlockState.BlockState, Sets.IsConsistentBlock, Sets.seen_of};
+    ghost use Rattle.ultra_block_core.specs.{BlockState.BlockState, Sets.{IsConsistentBlock, seen_of}};
 
     ghost Value = { BlockState };
 

@@ -2,7 +2,7 @@
 //! block to another.
 
 ghost use Rattle.std.specs.Prelude.{◌≡◌, ◌<◌, ◌^◌, IfOk, None, Some, slice_set};
-ghost use Rattle.ultra_block_core.specs.{Prelude.switch_count as count_of_switches, BlockState.own_element, BlockState.own_module, BlockState.own_switch, Building.empty_block, Building.with_unit, Building.without_unit};
+ghost use Rattle.ultra_block_core.specs.{Prelude.switch_count as count_of_switches, BlockState.{own_element, own_module, own_switch}, Building.{empty_block, with_unit, without_unit}};
 
 use crate::block::Block;
 use crate::sets::Sets;

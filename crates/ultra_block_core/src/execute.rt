@@ -1,7 +1,8 @@
 //! The half of a cycle in which processing elements make a step of the program.
 
 ghost use Rattle.std.specs.Prelude.{◌≡◌, ℕ, true, ◌+◌, ◌-◌, ◌^◌, ◌<◌, length};
-ghost use Rattle.ultra_block_core.specs.{Prelude.IsSmall, Prelude.after_units, Prelude.IsElement, BlockState.most_events, BlockState.most_stops, Execution.CanExecuteAt, Execution.ElementCanExecute, Execution.counted, Execution.element_executes, Execution.executes, Execution.executes_own, Holding.IsAsleep};
+ghost use Rattle.ultra_block_core.specs.{Prelude.{IsSmall, after_units, IsElement}, BlockState.{most_events, most_stops}, Holding.IsAsleep};
+ghost use Rattle.ultra_block_core.specs.Execution.{CanExecuteAt, ElementCanExecute, counted, element_executes, executes, executes_own};
 ghost use Rattle.ultra_topology.specs.declared.TheConstants.{MOST_UNITS};
 
 use crate::block::Block;

@@ -1,7 +1,7 @@
 //! Whether anything is left to do in a block.
 
 ghost use Rattle.std.specs.Prelude.{◌≡◌, true, false};
-ghost use Rattle.ultra_block_core.specs.{Prelude.list_all, Prelude.list_any, Prelude.quiet_element, Prelude.quiet_module, Prelude.quiet_switch, Quiet.is_running, Quiet.or_elsewhere, Quiet.quiet_block, Sets.if_here};
+ghost use Rattle.ultra_block_core.specs.{Prelude.{list_all, list_any, quiet_element, quiet_module, quiet_switch}, Quiet.{is_running, or_elsewhere, quiet_block}, Sets.if_here};
 
 use crate::block::Block;
 use ultra_mem::Module;

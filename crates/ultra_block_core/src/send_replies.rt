@@ -2,7 +2,8 @@
 
 ghost use Rattle.std.specs.Prelude.{◌≡◌, ℕ, ◌<◌, true};
 ghost use Rattle.ultra_block_core.specs.Prelude.{HasNoneFrom, IsSmall, replies_leaving, without_replies, LeadOn, put_on_both, reply_inlets, places_of, after_units, IsModule, IsSwitch};
-ghost use Rattle.ultra_block_core.specs.{Rooms.AreOwnRooms, declared.rooms.Rooms.Rooms, RepliesSent.without_events, RepliesSent.module_sends_reply, RepliesSent.reply_targets, RepliesSent.reply_ways, RepliesSent.sends_replies, RepliesSent.switch_sends_replies, Holding.HoldsNoReply};
+ghost use Rattle.ultra_block_core.specs.{Rooms.AreOwnRooms, declared.rooms.Rooms.Rooms, Holding.HoldsNoReply};
+ghost use Rattle.ultra_block_core.specs.RepliesSent.{without_events, module_sends_reply, reply_targets, reply_ways, sends_replies, switch_sends_replies};
 ghost use Rattle.ultra_topology.specs.declared.TheConstants.{MOST_UNITS};
 
 use crate::block::Block;

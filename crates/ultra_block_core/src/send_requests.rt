@@ -2,10 +2,9 @@
 
 ghost use Rattle.std.specs.Prelude.{◌≡◌, ℕ, ◌/◌, ◌<◌, ◌||◌, true, is_some};
 ghost use Rattle.ultra_route.specs.Route.{shuffled};
-ghost use Rattle.ultra_topology.specs.{Numbers.switch_number, Ways.has_request_way, Ways.has_way_from_element as way_from_element};
+ghost use Rattle.ultra_topology.specs.{Numbers.switch_number, Ways.{has_request_way, has_way_from_element as way_from_element}, declared.TheConstants.MOST_UNITS};
 ghost use Rattle.ultra_block_core.specs.Prelude.{IsSmall, lane_without, request_heads, requests_leaving, without_requests, LeadOn, LeadsTo, put_on_both, request_inlets, put_on, request_target, places_of, request_targets, request_ways, after_units, IsElement, IsSwitch};
-ghost use Rattle.ultra_block_core.specs.{Rooms.AreOpenFrom, Rooms.AreOwnRooms, declared.rooms.Rooms.Rooms, RequestsSent.element_sends_request, RequestsSent.request_leaving, RequestsSent.sends_requests, RequestsSent.switch_sends_requests, Holding.HoldsNoRequest};
-ghost use Rattle.ultra_topology.specs.declared.TheConstants.{MOST_UNITS};
+ghost use Rattle.ultra_block_core.specs.{Rooms.{AreOpenFrom, AreOwnRooms}, declared.rooms.Rooms.Rooms, RequestsSent.{element_sends_request, request_leaving, sends_requests, switch_sends_requests}, Holding.HoldsNoRequest};
 
 use crate::block::Block;
 use crate::rooms::Rooms;

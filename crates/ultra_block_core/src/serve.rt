@@ -1,7 +1,7 @@
 //! The half of a cycle in which modules serve.
 
 ghost use Rattle.std.specs.Prelude.{◌≡◌, ℕ, ◌<◌, true, length};
-ghost use Rattle.ultra_block_core.specs.{Prelude.IsSmall, Prelude.after_units, Prelude.IsModule, BlockState.HasEventRoom, BlockState.most_events, Serving.module_serves, Serving.serves, Holding.ServesNothing};
+ghost use Rattle.ultra_block_core.specs.{Prelude.{IsSmall, after_units, IsModule}, BlockState.{HasEventRoom, most_events}, Serving.{module_serves, serves}, Holding.ServesNothing};
 ghost use Rattle.ultra_topology.specs.declared.TheConstants.{MOST_UNITS};
 
 use crate::block::Block;

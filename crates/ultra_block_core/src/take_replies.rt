@@ -2,7 +2,8 @@
 
 ghost use Rattle.std.specs.Prelude.{◌≡◌, ℕ, ◌<◌, true, length};
 ghost use Rattle.ultra_block_core.specs.Prelude.{IsSmall, CanTakeReplies, after_replies, AreInlets, reply_inlets, on_both, without_both, switch_count, after_units, IsElement, IsSwitch};
-ghost use Rattle.ultra_block_core.specs.{BlockState.most_events, RepliesTaken.CanTakeRepliesAt, RepliesTaken.ElementCanTakeReply, RepliesTaken.SwitchCanTakeReplies, RepliesTaken.element_takes_reply, RepliesTaken.switch_takes_replies, RepliesTaken.takes_replies, Holding.GetsNoReply};
+ghost use Rattle.ultra_block_core.specs.{BlockState.most_events, Holding.GetsNoReply};
+ghost use Rattle.ultra_block_core.specs.RepliesTaken.{CanTakeRepliesAt, ElementCanTakeReply, SwitchCanTakeReplies, element_takes_reply, switch_takes_replies, takes_replies};
 ghost use Rattle.ultra_topology.specs.declared.TheConstants.{MOST_UNITS};
 
 use crate::block::Block;

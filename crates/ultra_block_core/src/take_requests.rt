@@ -2,7 +2,8 @@
 
 ghost use Rattle.std.specs.Prelude.{◌≡◌, ℕ, ◌+◌, ◌<◌, ◌≤◌, ◌↔◌, ◌++◌, [], Bool, true, false, length, vec_capacity};
 ghost use Rattle.ultra_block_core.specs.Prelude.{IsSmall, ForSome, HasWay, after_both, combinations_of_both, AreInlets, request_inlets, on_link, ports_in_turn, request_links, without_both, after_units, IsModule, IsSwitch};
-ghost use Rattle.ultra_block_core.specs.{BlockState.most_events, RequestsTaken.CanTakeRequestsAt, RequestsTaken.ModuleCanTakeRequest, RequestsTaken.SwitchCanTakeRequests, RequestsTaken.module_takes_request, RequestsTaken.switch_takes_requests, RequestsTaken.takes_requests, Holding.GetsNoRequest};
+ghost use Rattle.ultra_block_core.specs.{BlockState.most_events, Holding.GetsNoRequest};
+ghost use Rattle.ultra_block_core.specs.RequestsTaken.{CanTakeRequestsAt, ModuleCanTakeRequest, SwitchCanTakeRequests, module_takes_request, switch_takes_requests, takes_requests};
 ghost use Rattle.ultra_topology.specs.declared.TheConstants.{MOST_UNITS};
 
 use crate::block::Block;

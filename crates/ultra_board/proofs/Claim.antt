@@ -1,20 +1,14 @@
 -- the steps on claim keep the rule
 use Rattle.std.proofs.Common.{◌≡◌, ℕ, ◌+◌, ◌%◌, ◌^◌, ◌<◌, ◌≤◌, List, [], ◌∷◌, ◌++◌, true, false, length, set, refl, subst, arith, ⊎_elim, get_or-set_same, get_or-set_other, min, ◌∙◌, length-append}
-use Rattle.std.proofs.lemmas.List.{set-get_or}
-use Rattle.std.proofs.Math.ListN.{length-set}
+use Rattle.std.proofs.{lemmas.List.set-get_or, Math.ListN.length-set}
 use Rattle.std.specs.Prelude.{slice_index, slice_set}
 use lib.ListN.{get_elem?}
 use native.Mathlib.Decide.{dec_le}
 use mathlib.Core.Option.{some}
 use Rattle.atomic_table.proofs.Lists.{at_set}
 use Rattle.atomic_table.specs.Table.{State}
-use Rattle.ultra_board.specs.declared.rule.View.{View}
-use Rattle.ultra_board.specs.declared.rule.Limits.{Limits}
-use Rattle.ultra_board.specs.View.{total_over_views, times, spent_places}
-use Rattle.ultra_board.specs.Step.{AddsToClaim, LoadsClaim}
-use Rattle.ultra_board.specs.Rule.{IsBoardRule, IsSoundView}
-use Rattle.ultra_board.proofs.Sums.{total_over_views-set, total_over_views-set_same, one-le-total_over_views, spent_places-beside}
-use Rattle.ultra_board.proofs.Times.{times-push, times_below-le, times_below-more, times_below-itself, not_contained-times}
+use Rattle.ultra_board.specs.{declared.rule.{View.View, Limits.Limits}, View.{total_over_views, times, spent_places}, Step.{AddsToClaim, LoadsClaim}, Rule.{IsBoardRule, IsSoundView}}
+use Rattle.ultra_board.proofs.{Sums.{total_over_views-set, total_over_views-set_same, one-le-total_over_views, spent_places-beside}, Times.{times-push, times_below-le, times_below-more, times_below-itself, not_contained-times}}
 
 -- the words after an add to claim
 pub after_claim : (words : List ℕ) (n : ℕ) → length words ≡ 3 → (slice_index (slice_set words 0 n) 0 ≡ n) × (slice_index (slice_set words 0 n) 1 ≡ slice_index words 1) × (slice_index (slice_set words 0 n) 2 ≡ slice_index words 2) × (length (slice_set words 0 n) ≡ 3)

@@ -4,13 +4,8 @@ use Rattle.std.specs.Prelude.{slice_index}
 use lib.ListN.{get_elem?}
 use mathlib.Core.Option.{some, some-injective, some-ne-none}
 use Rattle.atomic_table.specs.Table.{State, Final, Seen}
-use Rattle.ultra_board.specs.declared.rule.View.{View}
-use Rattle.ultra_board.specs.declared.rule.Limits.{Limits}
-use Rattle.ultra_board.specs.View.{total_over_views, times, times_below, spent_places}
-use Rattle.ultra_board.specs.Seat.{IsTotal}
-use Rattle.ultra_board.specs.Rule.{IsBoardRule}
-use Rattle.ultra_board.proofs.Sums.{total_over_views-alone, spent_places-le}
-use Rattle.ultra_board.proofs.Times.{length-within_none}
+use Rattle.ultra_board.specs.{declared.rule.{View.View, Limits.Limits}, View.{total_over_views, times, times_below, spent_places}, Seat.IsTotal, Rule.IsBoardRule}
+use Rattle.ultra_board.proofs.{Sums.{total_over_views-alone, spent_places-le}, Times.length-within_none}
 
 module _ (k : Limits) (s : State ℕ View) (h : IsBoardRule k s) (place : ℕ) (v : View) (e : get_elem? s.views place ≡ some v) (all : v.places ≡ k.seats) (no_try : v.tries ≡ 0) where
   sole : (f : View → ℕ) → ((other : ℕ) (u : View) → get_elem? s.views other ≡ some u → u.places ≡ 0 → f u ≡ 0) → total_over_views f s.views ≡ f v

@@ -1,19 +1,12 @@
 -- an add to done and a load of done keep the rule
 use Rattle.std.proofs.Common.{◌≡◌, ℕ, ◌+◌, ◌%◌, ◌^◌, ◌<◌, ◌≤◌, List, [], ◌∷◌, ◌++◌, length, set, refl, arith, get_or-set_same, get_or-set_other, ◌∙◌, length-append}
-use Rattle.std.proofs.lemmas.List.{set-get_or}
-use Rattle.std.proofs.Math.ListN.{length-set}
+use Rattle.std.proofs.{lemmas.List.set-get_or, Math.ListN.length-set}
 use Rattle.std.specs.Prelude.{slice_index, slice_set, Contains}
 use lib.ListN.{get_elem?}
 use mathlib.Core.Option.{some}
 use Rattle.atomic_table.specs.Table.{State}
-use Rattle.ultra_board.specs.declared.rule.View.{View}
-use Rattle.ultra_board.specs.declared.rule.Limits.{Limits}
-use Rattle.ultra_board.specs.View.{total_over_views, times, spent_places}
-use Rattle.ultra_board.specs.Step.{AddsToDone, LoadsDone}
-use Rattle.ultra_board.specs.Rule.{IsBoardRule}
-use Rattle.ultra_board.proofs.Sums.{total_over_views-set, total_over_views-set_same, total_over_views-le_each, one-le-total_over_views}
-use Rattle.ultra_board.proofs.Times.{length-within, one_more_within, times-contained, times-not_contained}
-use Rattle.ultra_board.proofs.Claim.{all_sound}
+use Rattle.ultra_board.specs.{declared.rule.{View.View, Limits.Limits}, View.{total_over_views, times, spent_places}, Step.{AddsToDone, LoadsDone}, Rule.IsBoardRule}
+use Rattle.ultra_board.proofs.{Sums.{total_over_views-set, total_over_views-set_same, total_over_views-le_each, one-le-total_over_views}, Times.{length-within, one_more_within, times-contained, times-not_contained}, Claim.all_sound}
 
 after_done : (words : List ℕ) (n : ℕ) → length words ≡ 3 → (slice_index (slice_set words 1 n) 0 ≡ slice_index words 0) × (slice_index (slice_set words 1 n) 1 ≡ n) × (slice_index (slice_set words 1 n) 2 ≡ slice_index words 2) × (length (slice_set words 1 n) ≡ 3)
 after_done words n three = (get_or-set_other words 1 0 n 0 (omega arith), get_or-set_same words 1 n 0 (omega arith), get_or-set_other words 1 2 n 0 (omega arith), length-set words 1 n ∙ three)

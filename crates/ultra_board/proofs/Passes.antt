@@ -6,11 +6,7 @@ use lib.ListN.{get_elem?}
 use native.Mathlib.Decide.{dec_le}
 use mathlib.Core.Option.{some}
 use Rattle.atomic_table.specs.Table.{State}
-use Rattle.ultra_board.specs.declared.rule.View.{View}
-use Rattle.ultra_board.specs.declared.rule.Limits.{Limits}
-use Rattle.ultra_board.specs.View.{total_over_views, times, spent_places}
-use Rattle.ultra_board.specs.Step.{LoadsPasses, AddsToPasses, SubtractsFromPasses}
-use Rattle.ultra_board.specs.Rule.{IsBoardRule}
+use Rattle.ultra_board.specs.{declared.rule.{View.View, Limits.Limits}, View.{total_over_views, times, spent_places}, Step.{LoadsPasses, AddsToPasses, SubtractsFromPasses}, Rule.IsBoardRule}
 use Rattle.ultra_board.proofs.Sums.{total_over_views-set, total_over_views-set_same, total_over_views-le, total_over_views-le_each, one-le-total_over_views, total_over_views-plus}
 use Rattle.ultra_board.proofs.Claim.{all_sound}
 

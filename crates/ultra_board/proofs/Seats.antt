@@ -5,12 +5,9 @@ use lib.ListN.{get_elem?}
 use mathlib.Core.Option.{some}
 use Rattle.atomic_table.proofs.Lists.{at_set, at_snoc}
 use Rattle.atomic_table.specs.Table.{State}
-use Rattle.ultra_board.specs.declared.rule.View.{View}
-use Rattle.ultra_board.specs.declared.rule.Limits.{Limits}
+use Rattle.ultra_board.specs.{declared.rule.{View.View, Limits.Limits}, Rule.{IsBoardRule, IsSoundView}}
 use Rattle.ultra_board.specs.View.{total_over_views, times, spent_places, second_view, joined_view, no_view}
-use Rattle.ultra_board.specs.Rule.{IsBoardRule, IsSoundView}
-use Rattle.ultra_board.proofs.Sums.{total_over_views-set, total_over_views-push}
-use Rattle.ultra_board.proofs.Times.{times-append}
+use Rattle.ultra_board.proofs.{Sums.{total_over_views-set, total_over_views-push}, Times.times-append}
 
 split_spent : (b : Bool) (places : ℕ) → 2 ≤ places → (if b then places - 1 else 0) + (if b then 1 else 0) ≡ (if b then places else 0)
 split_spent true places two = omega arith

@@ -3,8 +3,7 @@ use Rattle.std.proofs.Common.{◌≡◌, ℕ, zero, suc, ◌+◌, ◌≤◌, Lis
 use Rattle.std.specs.Prelude.{if◌then◌else◌}
 use lib.ListN.{get_elem?}
 use mathlib.Core.Option.{some, some-injective, some-ne-none}
-use Rattle.ultra_board.specs.declared.rule.View.{View}
-use Rattle.ultra_board.specs.View.{total_over_views, spent_places}
+use Rattle.ultra_board.specs.{declared.rule.View.View, View.{total_over_views, spent_places}}
 
 -- one view changes
 pub total_over_views-set : (f : View → ℕ) (vs : List View) (place : ℕ) (v w : View) → get_elem? vs place ≡ some v → total_over_views f (set vs place w) + f v ≡ total_over_views f vs + f w

@@ -1,7 +1,6 @@
 -- how often numbers occur in lists
 use Rattle.std.proofs.Common.{◌≡◌, ℕ, zero, suc, ◌+◌, ◌<◌, ◌≤◌, List, [], ◌∷◌, ◌++◌, Bool, true, false, length, refl, ap, arith, min, eq-eqb}
-use Rattle.std.proofs.lemmas.Bool.{eqb-true}
-use Rattle.std.proofs.lemmas.Bool.Decides.{nat_tests}
+use Rattle.std.proofs.lemmas.Bool.{eqb-true, Decides.nat_tests}
 use Rattle.std.specs.Prelude.{nat_lt, ◌==◌, Contains, slice_index_or}
 use native.Mathlib.Decide.{dec_le}
 use Rattle.ultra_board.specs.View.{one_if, times, times_below}

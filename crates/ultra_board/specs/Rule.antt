@@ -4,11 +4,7 @@ use Rattle.std.specs.Prelude.{◌≡◌, ◌<◌, ◌≤◌, ℕ, ◌+◌, [], t
 use lib.ListN.{get_elem?}
 use mathlib.Core.Option.{some}
 use Rattle.atomic_table.specs.Table.{State}
-use Rattle.ultra_board.specs.declared.TheConstants.{MOST_NUMBERS, MOST_PASSES, MOST_SEATS}
-use Rattle.ultra_board.specs.declared.words.TheConstants.{CLAIM, DONE, PASSES}
-use Rattle.ultra_board.specs.declared.rule.View.{View}
-use Rattle.ultra_board.specs.declared.rule.Limits.{Limits}
-use Rattle.ultra_board.specs.View.{times, times_below, total_over_views, spent_places}
+use Rattle.ultra_board.specs.{declared.{TheConstants.{MOST_NUMBERS, MOST_PASSES, MOST_SEATS}, words.TheConstants.{CLAIM, DONE, PASSES}, rule.{View.View, Limits.Limits}}, View.{times, times_below, total_over_views, spent_places}}
 
 -- what a board can be opened with
 pub record IsWithinLimits (k : Limits) : Type 0 where

@@ -1,11 +1,7 @@
 -- seats and boards as contracts see them
 use Rattle.std.specs.Prelude.{◌≡◌, ◌≤◌, ℕ, ◌+◌, Bool, true, [], length, min}
-use Rattle.atomic_table.specs.Seated.{TableId}
-use Rattle.atomic_table.specs.Table.{Me}
-use Rattle.ultra_board.specs.declared.TheConstants.{MOST_SEATS}
-use Rattle.ultra_board.specs.declared.rule.View.{View}
-use Rattle.ultra_board.specs.declared.rule.Limits.{Limits}
-use Rattle.ultra_board.specs.View.{times, times_below, spent_places}
+use Rattle.atomic_table.specs.{Seated.TableId, Table.Me}
+use Rattle.ultra_board.specs.{declared.{TheConstants.MOST_SEATS, rule.{View.View, Limits.Limits}}, View.{times, times_below, spent_places}}
 
 -- a seat: which board it is of, and what it knows
 pub record SeatState : Type 0 where

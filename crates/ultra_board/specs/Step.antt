@@ -2,9 +2,7 @@
 -- after it. It finds n in its word. All of it is this project's profile
 use Rattle.std.specs.Prelude.{◌≡◌, ℕ, ◌+◌, ◌-◌, ◌<◌, ◌≤◌, [], ◌∷◌, ◌++◌, true, length, Contains}
 use Rattle.atomic_table.specs.Table.{Me, Step}
-use Rattle.ultra_board.specs.declared.TheConstants.{MOST_SEATS}
-use Rattle.ultra_board.specs.declared.rule.View.{View}
-use Rattle.ultra_board.specs.View.{times}
+use Rattle.ultra_board.specs.{declared.{TheConstants.MOST_SEATS, rule.View.View}, View.times}
 
 -- a step on this word has this effect on the views, and takes or gives no slot
 abbrev pub HasEffect : ℕ → (View → ℕ → View → Type 0)

@@ -1,8 +1,7 @@
 -- what a seat knows, and how that changes when seats are split and joined. All of it is this
 -- project's profile
 use Rattle.std.specs.Prelude.{ℕ, ◌+◌, List, [], ◌∷◌, ◌++◌, Bool, true, false, ◌==◌, ◌||◌, nat_lt, max, if◌then◌else◌}
-use Rattle.ultra_board.specs.declared.rule.View.{View}
-use Rattle.ultra_board.specs.declared.rule.Limits.{Limits}
+use Rattle.ultra_board.specs.declared.rule.{View.View, Limits.Limits}
 
 -- the first seat of a board: it has all places and nothing else
 abbrev pub first_view : Limits → View

@@ -62,8 +62,7 @@ pub struct View {
 pub struct BoardRule;
 
 impl TableRule<u64, View, Limits> for BoardRule {
-    ghost use Rattle.ultra_board.specs.Rule.{IsBoardRule};
-    ghost use Rattle.ultra_board.specs.View.{first_view};
+    ghost use Rattle.ultra_board.specs.{Rule.IsBoardRule, View.first_view};
 
     ghost holds = { IsBoardRule };
 

@@ -1,10 +1,8 @@
 //! The three words of a board, and each kind of atomic step on them. Here, and nowhere else, a word
 //! is touched.
 ghost use Rattle.std.specs.Prelude.{◌≡◌, ◌+◌, ◌-◌, ◌<◌, ◌≤◌, false, [], IfOk, Contains};
-ghost use Rattle.ultra_board.specs.Rule.{IsWithinLimits};
-ghost use Rattle.ultra_board.specs.Seat.{IsTotal};
+ghost use Rattle.ultra_board.specs.{Rule.IsWithinLimits, Seat.IsTotal, View.{first_view, second_view, joined_view}};
 ghost use Rattle.ultra_board.specs.Step.{AddsToClaim, AddsToDone, LoadsDone, LoadsPasses, AddsToPasses, SubtractsFromPasses, LoadsClaim};
-ghost use Rattle.ultra_board.specs.View.{first_view, second_view, joined_view};
 
 use crate::rule::{
     AddToClaim, AddToDone, AddToPasses, BoardRule, Both, Limits, LoadOfClaim, LoadOfDone,

@@ -3,13 +3,9 @@ use Rattle.std.proofs.Common.{◌≡◌, ℕ, ◌<◌, Bool, true, false, List, 
 use Rattle.std.specs.Prelude.{Result, Ok, Err, IfOk, slice_index}
 use Rattle.std.proofs.lemmas.Bool.{and_parts}
 use Rattle.ultra_isa.specs.declared.Instr.{Instr}
-use Rattle.ultra_model.specs.Machine.{Settings, size, is_empty}
-use Rattle.ultra_model.specs.Ranges.{AreInRange}
-use Rattle.ultra_para.specs.Para.{start_para, run_para}
-use Rattle.ultra_para.specs.ParaState.{ParaState}
-use Rattle.ultra_colib.specs.declared.fault.ColibFault.{ColibFault}
-use Rattle.ultra_colib.specs.declared.fault.ColibFault.TheVariants.{BadParameter}
-use Rattle.ultra_colib.specs.Schedules.{CellWords, IsKeptBySchedules}
+use Rattle.ultra_model.specs.{Machine.{Settings, size, is_empty}, Ranges.AreInRange}
+use Rattle.ultra_para.specs.{Para.{start_para, run_para}, ParaState.ParaState}
+use Rattle.ultra_colib.specs.{declared.fault.ColibFault.{ColibFault, TheVariants.BadParameter}, Schedules.{CellWords, IsKeptBySchedules}}
 
 -- a test whose failure would have been an error
 passed : (m : ParaState) (b : Bool) → (b ≡ false → ◌≡◌ {A = Result ParaState ColibFault} (Ok m) (Err BadParameter)) → b ≡ true

@@ -1,21 +1,13 @@
 -- the barrier's invariant
 use Rattle.std.proofs.Common.{◌≡◌, ◌≢◌, ℕ, suc, ◌+◌, ◌-◌, ◌<◌, ◌≤◌, ◌*◌, List, [], ◌∷◌, length, drop, Bool, true, false, refl, sym, ap, ◌∙◌, subst, add-one, arith}
 use Rattle.std.specs.Prelude.{All, ◌%◌, ◌^◌, slice_set, slice_index, slice_index_or, nat_lt, sum_by, replicate, bit_and}
-use Rattle.std.proofs.lemmas.Grind.{common_steps, get_or-set_at}
-use Rattle.std.proofs.lemmas.List.{get_or-set_other, set-get_or}
-use Rattle.std.proofs.lemmas.List.Sums.{sum_by-cons}
-use Rattle.std.proofs.lemmas.List.Folds.{sum_by-replicate}
-use Rattle.std.proofs.lemmas.Nat.{and_mask, mod-mul-add}
-use Rattle.std.proofs.Math.ListN.{length-set}
-use Rattle.std.proofs.Math.Nat.{mul-suc, suc-mul, mul-le-mul_left}
+use Rattle.std.proofs.{lemmas.{Grind.{common_steps, get_or-set_at}, List.{get_or-set_other, set-get_or, Sums.sum_by-cons, Folds.sum_by-replicate}, Nat.{and_mask, mod-mul-add}}, Math.{ListN.length-set, Nat.{mul-suc, suc-mul, mul-le-mul_left}}}
 use Rattle.ultra_msg.specs.Act.{plus}
 use Rattle.ultra_isa.specs.Instruction.{minus}
-use Rattle.ultra_model.specs.Machine.{Settings, size}
-use Rattle.ultra_model.specs.Ranges.{AreInRange}
+use Rattle.ultra_model.specs.{Machine.{Settings, size}, Ranges.AreInRange}
 use Rattle.ultra_para.specs.Para.{Para, start_para, run_para}
 use Rattle.ultra_colib.proofs.Interleaving.{IsIn, unchanged, sum_changes, phase_after, replicated, few_elements, zero_at_first, Knows, stage_at, ◌▹◌, AreKept, Holds, always}
-use Rattle.ultra_colib.specs.Schedules.{IsKeptBySchedules}
-use Rattle.ultra_colib.specs.Barrier.{barrier, AreInStep}
+use Rattle.ultra_colib.specs.{Schedules.IsKeptBySchedules, Barrier.{barrier, AreInStep}}
 use Rattle.ultra_colib.proofs.Tally.{at_phase}
 
 -- rounds: arrivals made, begun cell, finished cell, waits passed

@@ -1,16 +1,12 @@
 -- the gate's invariant
 use Rattle.std.proofs.Common.{◌≡◌, ◌≢◌, ℕ, ◌+◌, ◌-◌, ◌<◌, ◌≤◌, ◌*◌, List, [], ◌∷◌, length, drop, Bool, true, false, refl, ap, arith}
 use Rattle.std.specs.Prelude.{slice_set, slice_index, nat_lt, sum_by, replicate}
-use Rattle.std.proofs.lemmas.Grind.{common_steps}
-use Rattle.std.proofs.lemmas.List.Sums.{sum_by-le-sum_by, sum_by-le}
-use Rattle.std.proofs.lemmas.List.Folds.{sum_by-replicate}
+use Rattle.std.proofs.lemmas.{Grind.common_steps, List.{Sums.{sum_by-le-sum_by, sum_by-le}, Folds.sum_by-replicate}}
 use Rattle.ultra_msg.specs.Act.{plus}
-use Rattle.ultra_model.specs.Machine.{Settings, size}
-use Rattle.ultra_model.specs.Ranges.{AreInRange}
+use Rattle.ultra_model.specs.{Machine.{Settings, size}, Ranges.AreInRange}
 use Rattle.ultra_para.specs.Para.{Para, start_para}
 use Rattle.ultra_colib.proofs.Interleaving.{IsIn, unchanged, sum_changes, within_sum, few_elements, Knows, stage_at, ◌▹◌, AreKept, Holds, always}
-use Rattle.ultra_colib.specs.Schedules.{total, IsKeptBySchedules}
-use Rattle.ultra_colib.specs.Gate.{gate, AreFewInside}
+use Rattle.ultra_colib.specs.{Schedules.{total, IsKeptBySchedules}, Gate.{gate, AreFewInside}}
 use Rattle.ultra_colib.proofs.Tally.{at_phase, Tally, counts, raises, tally_at_first, total_flags}
 
 -- without a pass, about to undo an addition, with a pass, with a pass and its flag up

@@ -1,14 +1,9 @@
 -- the gate: its text is written for its program
 use Rattle.std.proofs.Common.{◌≡◌, ℕ, ◌+◌, ◌<◌, ◌^◌, List, [], ◌∷◌, ◌++◌, drop, codes, decimal, refl, sym, ◌∙◌, ap, subst, arith, lit≤}
 use Rattle.std.proofs.lemmas.Fmt.{decimal_digit}
-use Rattle.ultra_asm.specs.declared.instruction.Mnemonic.TheVariants.{Set}
-use Rattle.ultra_asm.specs.declared.instruction.Operand.TheVariants.{Number, Register}
-use Rattle.ultra_asm.specs.Words.{text_words}
-use Rattle.ultra_asm.specs.Labels.{label_pc}
-use Rattle.ultra_asm.specs.ProgramText.{AreInstructions, statements, AreLinesOf, IsProgramText}
+use Rattle.ultra_asm.specs.{declared.instruction.{Mnemonic.TheVariants.Set, Operand.TheVariants.{Number, Register}}, Words.text_words, Labels.label_pc, ProgramText.{AreInstructions, statements, AreLinesOf, IsProgramText}}
 use Rattle.ultra_asm.proofs.Spelled.{operands_back}
-use Rattle.ultra_colib.specs.Gate.{gate}
-use Rattle.ultra_colib.specs.Texts.{text_of_lines, gate_lines, gate_text}
+use Rattle.ultra_colib.specs.{Gate.gate, Texts.{text_of_lines, gate_lines, gate_text}}
 use Rattle.ultra_colib.proofs.Reading.{Lines, words, words_from, number_line, labels_of}
 
 module _ (bound : ℕ) (bound_small : bound < 2 ^ 32) (rounds : ℕ) (rounds_small : rounds < 2 ^ 32) where

@@ -3,26 +3,16 @@
 -- are in.
 use Rattle.std.proofs.Common.{◌≡◌, ◌≢◌, ℕ, zero, suc, ◌+◌, ◌*◌, ◌<◌, ◌≤◌, List, [], ◌∷◌, length, Bool, true, false, refl, sym, ap, ◌∙◌, subst, arith}
 use Rattle.std.specs.Prelude.{All, Option, Some, None, slice_get, slice_set, slice_index, slice_index_or, sum_by, nat_lt, ◌==◌, ◌/◌, ◌^◌, bit_and, if◌then◌else◌, replicate}
-use Rattle.std.proofs.lemmas.Bool.{eq-eqb}
-use Rattle.std.proofs.lemmas.Grind.{common_steps}
-use Rattle.std.proofs.lemmas.List.{get_or-set_same, get_or-set_other, set-get_or, get_or-replicate, get_or_past}
-use Rattle.std.proofs.lemmas.List.Sums.{sum_by-set, get_or-le-sum_by}
-use Rattle.std.proofs.Math.ListN.{length-set}
-use Rattle.std.proofs.Math.Pow.{pow_mono}
-use Rattle.ultra_msg.specs.declared.Op.{Op}
+use Rattle.std.proofs.{lemmas.{Bool.eq-eqb, Grind.common_steps, List.{get_or-set_same, get_or-set_other, set-get_or, get_or-replicate, get_or_past, Sums.{sum_by-set, get_or-le-sum_by}}}, Math.{ListN.length-set, Pow.pow_mono}}
+use Rattle.ultra_msg.specs.{declared.{Op.Op, Reply.Reply}, Act.{plus, act}}
 use Rattle.ultra_msg.specs.declared.Op.TheVariants as op
-use Rattle.ultra_msg.specs.declared.Reply.{Reply}
 use Rattle.ultra_msg.specs.declared.Reply.TheVariants as reply
-use Rattle.ultra_msg.specs.Act.{plus, act}
 use Rattle.ultra_pni.specs.Interface.{empty_interface, target_of}
-use Rattle.ultra_isa.specs.declared.Instr.{Instr}
+use Rattle.ultra_isa.specs.{declared.{Instr.Instr, Activity.Activity}, Instruction.minus}
 use Rattle.ultra_isa.specs.declared.Instr.TheVariants.{Set, Add, AddWord, Subtract, And, ShiftRight, IsBelow, IsEqual, JumpIfZero, JumpIfNotZero, Jump, Number, Size, Load, Store, Faa, Swap, Fence, Halt}
-use Rattle.ultra_isa.specs.declared.Activity.{Activity}
 use Rattle.ultra_isa.specs.declared.Activity.TheVariants as activity
-use Rattle.ultra_isa.specs.Instruction.{minus}
 use Rattle.ultra_isa.specs.Step.{Core, fresh_core, StepResult, refers_where, runs, runs_as, received}
-use Rattle.ultra_model.specs.Machine.{Settings, size, site, given_value}
-use Rattle.ultra_model.specs.Ranges.{AreInRange}
+use Rattle.ultra_model.specs.{Machine.{Settings, size, site, given_value}, Ranges.AreInRange}
 use Rattle.ultra_model.proofs.Each.{places_at, length-places}
 use Rattle.ultra_para.specs.Para.{Para, core_at, core_answered, start_para, after_alone, para_step, run_para}
 

@@ -2,12 +2,9 @@
 use Rattle.std.proofs.Common.{◌≡◌, ℕ, ◌<◌, List, [], ◌∷◌, lit≤, refl, arith}
 use Rattle.std.specs.Prelude.{All, slice_index}
 use Rattle.std.proofs.lemmas.List.Elements.{All-nil, All-from_recursion}
-use Rattle.ultra_model.specs.Places.{places}
-use Rattle.ultra_model.specs.Machine.{Settings}
-use Rattle.ultra_model.specs.Ranges.{AreInRange}
+use Rattle.ultra_model.specs.{Places.places, Machine.Settings, Ranges.AreInRange}
 use Rattle.ultra_para.specs.Para.{start_para, run_para}
-use Rattle.ultra_colib.specs.Queue.{AreItemsOnce}
-use Rattle.ultra_colib.specs.NoQueue.{no_queue, IsNoQueueRefused}
+use Rattle.ultra_colib.specs.{Queue.AreItemsOnce, NoQueue.{no_queue, IsNoQueueRefused}}
 
 abbrev two_elements : Settings
 two_elements = record { stages = 1; request_places = 4; reply_places = 8; wait_places = 4; most_open = 2; cells = 8; cycles = 1; initial = [] }

@@ -1,21 +1,14 @@
 -- what holds after every schedule of the paracomputer holds of the machine
 use Rattle.std.proofs.Common.{◌≡◌, ℕ, ◌*◌, ◌≤◌, List, [], ◌∷◌, length, Bool, true, false, refl, ◌∙◌, subst, arith}
 use Rattle.std.specs.Prelude.{Option, Some, None, nat_lt, slice_index}
-use Rattle.std.proofs.lemmas.Grind.{common_steps}
-use Rattle.std.proofs.lemmas.List.{get_or_past}
-use Rattle.std.proofs.Math.ListN.{length-set}
-use Rattle.std.proofs.Math.Path.{fun_ext}
+use Rattle.std.proofs.{lemmas.{Grind.common_steps, List.get_or_past}, Math.{ListN.length-set, Path.fun_ext}}
 use Rattle.ultra_msg.specs.declared.Request.{Request}
 use Rattle.ultra_isa.specs.declared.Instr.{Instr}
-use Rattle.ultra_model.specs.Machine.{Settings, size, given_value}
-use Rattle.ultra_model.specs.Phases.{after}
-use Rattle.ultra_model.specs.Trace.{cell_value}
+use Rattle.ultra_model.specs.{Machine.{Settings, size, given_value}, Phases.after, Trace.cell_value}
 use Rattle.ultra_model.proofs.Each.{length-places}
 use Rattle.ultra_para.specs.Para.{Para, core_at, cells_acted, start_para, alone, para_step, run_para}
-use Rattle.ultra_para.specs.Careful.{is_careful}
-use Rattle.ultra_para.specs.Law.{ParacomputerLaw}
-use Rattle.ultra_colib.specs.Schedules.{CellWords, IsKeptBySchedules}
-use Rattle.ultra_colib.specs.Laws.{IsKeptByMachine}
+use Rattle.ultra_para.specs.{Careful.is_careful, Law.ParacomputerLaw}
+use Rattle.ultra_colib.specs.{Schedules.{CellWords, IsKeptBySchedules}, Laws.IsKeptByMachine}
 
 -- no step changes the number of cells
 held_acted : (cells : List ℕ) (sent : Option Request) → length (cells_acted cells sent) ≡ length cells

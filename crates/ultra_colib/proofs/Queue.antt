@@ -1,20 +1,13 @@
 -- the queue: what holds at each place of its program
 use Rattle.std.proofs.Common.{◌≡◌, ◌≢◌, ℕ, ◌+◌, ◌-◌, ◌<◌, ◌≤◌, ◌*◌, List, [], ◌∷◌, length, drop, refl, sym, ap, ◌∙◌, inl, inr, add-one, suc-mul, mul-le-mul_left, mod-lt, div-le_self, arith}
 use Rattle.std.specs.Prelude.{All, ◌/◌, ◌%◌, ◌^◌, slice_set, slice_index, replicate, bit_and}
-use Rattle.std.proofs.lemmas.Bool.{cases_eq}
-use Rattle.std.proofs.lemmas.Grind.{get_or-set_at}
-use Rattle.std.proofs.lemmas.List.{get_or-set_other}
-use Rattle.std.proofs.lemmas.Nat.{and_mask, div-mul-add, mod-mul-add, pow_pos, shr_split}
-use Rattle.std.proofs.Math.ListN.{length-set}
-use Rattle.std.proofs.Math.Pow.{pow_mono}
+use Rattle.std.proofs.{lemmas.{Bool.cases_eq, Grind.get_or-set_at, List.get_or-set_other, Nat.{and_mask, div-mul-add, mod-mul-add, pow_pos, shr_split}}, Math.{ListN.length-set, Pow.pow_mono}}
 use Rattle.ultra_msg.specs.Act.{plus}
 use Rattle.ultra_isa.specs.Instruction.{minus}
-use Rattle.ultra_model.specs.Machine.{Settings, size}
-use Rattle.ultra_model.specs.Ranges.{AreInRange}
+use Rattle.ultra_model.specs.{Machine.{Settings, size}, Ranges.AreInRange}
 use Rattle.ultra_para.specs.Para.{start_para, run_para}
 use Rattle.ultra_colib.proofs.Interleaving.{Sixteen, listed, IsIn, unchanged, few_elements, zero_at_first, Knows, stage_at, ◌▹◌, AreKept, Comes, always}
-use Rattle.ultra_colib.specs.Schedules.{IsKeptBySchedules}
-use Rattle.ultra_colib.specs.Queue.{queue, AreItemsOnce}
+use Rattle.ultra_colib.specs.{Schedules.IsKeptBySchedules, Queue.{queue, AreItemsOnce}}
 use Rattle.ultra_colib.proofs.Tally.{at_phase}
 use Rattle.ultra_colib.proofs.QueueState.{changed, pick, Phase, idle, inserts, puts, has_put, between, deletes, takes, taken, carries, out, Queue, empty, with_insert, with_delete, with_turn, with_item, with_result, Keeps, draws_insert, few_tickets, draws_delete, reaches_insert, reaches_delete, puts_item, opens_turn, takes_item, closes_turn, puts_result, keeps_at_first, fewer, results_different, result_of_round}
 

@@ -1,12 +1,7 @@
 -- the queue's invariant over its indexes, turn words, data and results, with tickets in the phases, and what each act does to it
 use Rattle.std.proofs.Common.{◌≡◌, ◌≢◌, ℕ, ◌+◌, ◌<◌, ◌≤◌, ◌*◌, List, length, Bool, true, false, refl, sym, ap, ◌∙◌, subst, inl, inr, mul-le-mul_right, arith}
 use Rattle.std.specs.Prelude.{◌/◌, ◌%◌, ◌==◌, slice_set, slice_index_or, sum_by, replicate}
-use Rattle.std.proofs.lemmas.Bool.{cases_eq, cases_lt}
-use Rattle.std.proofs.lemmas.Grind.{common_steps}
-use Rattle.std.proofs.lemmas.List.{get_or-set_same, get_or_default}
-use Rattle.std.proofs.lemmas.List.Sums.{sum_by-le, sum_by-le-sum_by}
-use Rattle.std.proofs.lemmas.List.Folds.{sum_by-replicate}
-use Rattle.std.proofs.lemmas.Nat.{div-mul-add, mod-mul-add}
+use Rattle.std.proofs.lemmas.{Bool.{cases_eq, cases_lt}, Grind.common_steps, List.{get_or-set_same, get_or_default, Sums.{sum_by-le, sum_by-le-sum_by}, Folds.sum_by-replicate}, Nat.{div-mul-add, mod-mul-add}}
 use Rattle.ultra_colib.proofs.Interleaving.{IsIn, sum_changes, phase_after, replicated}
 
 -- ---- one number of a row is set

@@ -1,15 +1,9 @@
 -- the queue: its text is written for its program
 use Rattle.std.proofs.Common.{◌≡◌, ℕ, ◌+◌, ◌-◌, ◌*◌, ◌<◌, ◌≤◌, ◌^◌, List, [], ◌∷◌, ◌++◌, drop, codes, decimal, refl, sym, ◌∙◌, ap, subst, arith, lit≤}
-use Rattle.std.proofs.lemmas.Fmt.{decimal_digit}
-use Rattle.std.proofs.Math.Pow.{pow_mono}
-use Rattle.ultra_asm.specs.declared.instruction.Mnemonic.TheVariants.{AddWord, Set, ShiftRight}
-use Rattle.ultra_asm.specs.declared.instruction.Operand.TheVariants.{Bits, Number, Register}
-use Rattle.ultra_asm.specs.Words.{text_words}
-use Rattle.ultra_asm.specs.Labels.{label_pc}
-use Rattle.ultra_asm.specs.ProgramText.{AreInstructions, statements, AreLinesOf, IsProgramText}
+use Rattle.std.proofs.{lemmas.Fmt.decimal_digit, Math.Pow.pow_mono}
+use Rattle.ultra_asm.specs.{declared.instruction.{Mnemonic.TheVariants.{AddWord, Set, ShiftRight}, Operand.TheVariants.{Bits, Number, Register}}, Words.text_words, Labels.label_pc, ProgramText.{AreInstructions, statements, AreLinesOf, IsProgramText}}
 use Rattle.ultra_asm.proofs.Spelled.{operands_back}
-use Rattle.ultra_colib.specs.Queue.{queue}
-use Rattle.ultra_colib.specs.Texts.{text_of_lines, queue_lines, queue_text}
+use Rattle.ultra_colib.specs.{Queue.queue, Texts.{text_of_lines, queue_lines, queue_text}}
 use Rattle.ultra_colib.proofs.Reading.{Lines, words, words_from, number_line, decimal_eleven, labels_of}
 
 module _ (z : ℕ) (z_small : z ≤ 6) (rounds : ℕ) (rounds_small : rounds < 2 ^ 32) where

@@ -1,17 +1,12 @@
 -- the invariant of the readers and writers
 use Rattle.std.proofs.Common.{◌≡◌, ◌≢◌, ℕ, ◌+◌, ◌-◌, ◌<◌, ◌≤◌, ◌*◌, List, [], ◌∷◌, length, drop, Bool, true, false, refl, sym, ap, ◌∙◌, arith}
 use Rattle.std.specs.Prelude.{slice_set, slice_index, slice_index_or, nat_lt, ◌==◌, sum_by, replicate}
-use Rattle.std.proofs.lemmas.Grind.{common_steps}
-use Rattle.std.proofs.lemmas.List.Sums.{sum_by-le-sum_by, sum_by-le, get_or-le-sum_by}
-use Rattle.std.proofs.Math.ListN.{length-set}
-use Rattle.std.proofs.lemmas.List.Folds.{sum_by-replicate}
+use Rattle.std.proofs.{lemmas.{Grind.common_steps, List.{Sums.{sum_by-le-sum_by, sum_by-le, get_or-le-sum_by}, Folds.sum_by-replicate}}, Math.ListN.length-set}
 use Rattle.ultra_msg.specs.Act.{plus}
-use Rattle.ultra_model.specs.Machine.{Settings, size}
-use Rattle.ultra_model.specs.Ranges.{AreInRange}
+use Rattle.ultra_model.specs.{Machine.{Settings, size}, Ranges.AreInRange}
 use Rattle.ultra_para.specs.Para.{Para, start_para}
 use Rattle.ultra_colib.proofs.Interleaving.{IsIn, sum_changes, within_sum, phase_after, few_elements, Knows, stage_at, ◌▹◌, AreKept, Holds, always}
-use Rattle.ultra_colib.specs.Schedules.{IsKeptBySchedules}
-use Rattle.ultra_colib.specs.ReadersWriters.{readers_writers, AreWritersAlone}
+use Rattle.ultra_colib.specs.{Schedules.IsKeptBySchedules, ReadersWriters.{readers_writers, AreWritersAlone}}
 use Rattle.ultra_colib.proofs.Tally.{at_phase, two_within_sum, sum_at_most_one, Tally, counts, raises, tally_at_first}
 
 -- not counted; as a reader, then as a writer: about to undo, inside, inside with its flag up

@@ -1,16 +1,8 @@
 -- texts into which numbers are put are read as their programs
 use Rattle.std.proofs.Common.{◌≡◌, ℕ, zero, suc, ◌+◌, ◌<◌, Bool, true, false, not, ◌&&◌, List, [], ◌∷◌, ◌++◌, map, length, take, drop, codes, decimal, Option, Some, None, IfSome, refl, sym, ◌∙◌, ap, subst, append_assoc, append-nil, arith}
-use Rattle.std.proofs.lemmas.Bool.{and_parts}
-use Rattle.std.proofs.lemmas.Fmt.{decimal_digit, decimal_step}
-use Rattle.ultra_asm.specs.declared.instruction.Mnemonic.{Mnemonic}
-use Rattle.ultra_asm.specs.declared.instruction.Operand.{Operand}
-use Rattle.ultra_asm.specs.Words.{line_words, text_words, before_colon, is_name}
-use Rattle.ultra_asm.specs.Labels.{is_defined_before}
-use Rattle.ultra_asm.specs.Instruction.{mnemonic_word}
-use Rattle.ultra_asm.specs.ProgramText.{IsNewLabel, IsLabelled, line_at}
-use Rattle.ultra_asm.specs.Listing.{operand_text, operands_text, AreWritable}
-use Rattle.ultra_asm.proofs.Cutting.{text_next}
-use Rattle.ultra_asm.proofs.Spelled.{word_plain, operands_plain}
+use Rattle.std.proofs.lemmas.{Bool.and_parts, Fmt.{decimal_digit, decimal_step}}
+use Rattle.ultra_asm.specs.{declared.instruction.{Mnemonic.Mnemonic, Operand.Operand}, Words.{line_words, text_words, before_colon, is_name}, Labels.is_defined_before, Instruction.mnemonic_word, ProgramText.{IsNewLabel, IsLabelled, line_at}, Listing.{operand_text, operands_text, AreWritable}}
+use Rattle.ultra_asm.proofs.{Cutting.text_next, Spelled.{word_plain, operands_plain}}
 
 abbrev pub Lines : Type 0
 Lines = List (List (List ℕ))

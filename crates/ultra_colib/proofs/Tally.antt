@@ -1,11 +1,7 @@
 -- a count in cell 0, and a flag for each processing element from cell 8 on, where each phase has a weight and a flag
 use Rattle.std.proofs.Common.{◌≡◌, ◌≢◌, ℕ, zero, refl, ◌+◌, ◌<◌, ◌≤◌, ◌*◌, List, [], ◌∷◌, suc, length, sym, ap, ◌∙◌, subst, arith}
 use Rattle.std.specs.Prelude.{slice_set, slice_index, slice_index_or, sum_by, replicate}
-use Rattle.std.proofs.lemmas.Grind.{get_or-set_at}
-use Rattle.std.proofs.lemmas.List.{get_or-set_other}
-use Rattle.std.proofs.lemmas.List.Sums.{sum_by-cons}
-use Rattle.std.proofs.Math.ListN.{length-set}
-use Rattle.std.proofs.lemmas.List.Folds.{sum_by-replicate}
+use Rattle.std.proofs.{lemmas.{Grind.get_or-set_at, List.{get_or-set_other, Sums.sum_by-cons, Folds.sum_by-replicate}}, Math.ListN.length-set}
 use Rattle.ultra_model.specs.Machine.{Settings, size}
 use Rattle.ultra_para.specs.Para.{start_para}
 use Rattle.ultra_colib.specs.Schedules.{total}

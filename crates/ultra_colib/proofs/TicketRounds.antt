@@ -1,15 +1,10 @@
 -- the ticket counter with rounds: no two processing elements have the same ticket
 use Rattle.std.proofs.Common.{◌≡◌, ◌≢◌, ℕ, suc, ◌+◌, ◌<◌, ◌≤◌, ◌*◌, List, [], ◌∷◌, length, Bool, true, false, refl, sym, ap, ◌∙◌, arith}
 use Rattle.std.specs.Prelude.{All, slice_set, slice_index, slice_index_or, ◌==◌, nat_lt, sum_by, replicate}
-use Rattle.std.proofs.lemmas.Grind.{common_steps, get_or-set_at}
-use Rattle.std.proofs.lemmas.List.{get_or_default}
-use Rattle.std.proofs.lemmas.List.Sums.{sum_by-cons, sum_by-le}
-use Rattle.std.proofs.lemmas.List.Folds.{sum_by-replicate}
-use Rattle.std.proofs.Math.Nat.{mul-suc}
+use Rattle.std.proofs.{lemmas.{Grind.{common_steps, get_or-set_at}, List.{get_or_default, Sums.{sum_by-cons, sum_by-le}, Folds.sum_by-replicate}}, Math.Nat.mul-suc}
 use Rattle.ultra_msg.specs.Act.{plus}
 use Rattle.ultra_isa.specs.Instruction.{minus}
-use Rattle.ultra_model.specs.Machine.{Settings, size}
-use Rattle.ultra_model.specs.Ranges.{AreInRange}
+use Rattle.ultra_model.specs.{Machine.{Settings, size}, Ranges.AreInRange}
 use Rattle.ultra_para.specs.Para.{Para, core_at, start_para, run_para}
 use Rattle.ultra_colib.specs.TicketRounds.{ticket_rounds, HasDrawn, AreTicketsDifferent, IsNextTicketGreater, AreAllDrawn, TicketRoundsLaw, NextTicketLaw, AllDrawnLaw, IsNoTicketTwice, NoTicketTwiceLaw}
 use Rattle.ultra_colib.proofs.Interleaving.{IsIn, sum_changes, phase_after, replicated, few_elements, zero_at_first, ◌▹◌, AreKept, Holds, holds_after, always}

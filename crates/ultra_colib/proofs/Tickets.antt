@@ -1,12 +1,9 @@
 -- the ticket counter: no two processing elements have taken the same ticket
 use Rattle.std.proofs.Common.{◌≡◌, ◌≢◌, ℕ, ◌+◌, ◌<◌, ◌≤◌, ◌*◌, List, [], length, Bool, true, false, refl, sym, ap, ◌∙◌, subst, arith}
 use Rattle.std.specs.Prelude.{All, slice_set, slice_index, slice_index_or, nat_lt, sum_by, replicate}
-use Rattle.std.proofs.lemmas.Grind.{common_steps, get_or-set_at}
-use Rattle.std.proofs.lemmas.List.Sums.{sum_by-le}
-use Rattle.std.proofs.lemmas.List.Folds.{sum_by-replicate}
+use Rattle.std.proofs.lemmas.{Grind.{common_steps, get_or-set_at}, List.{Sums.sum_by-le, Folds.sum_by-replicate}}
 use Rattle.ultra_msg.specs.Act.{plus}
-use Rattle.ultra_model.specs.Machine.{Settings, size}
-use Rattle.ultra_model.specs.Ranges.{AreInRange}
+use Rattle.ultra_model.specs.{Machine.{Settings, size}, Ranges.AreInRange}
 use Rattle.ultra_para.specs.Para.{core_at, start_para, run_para}
 use Rattle.ultra_colib.specs.Tickets.{tickets, AreDifferent}
 use Rattle.ultra_colib.proofs.Interleaving.{IsIn, sum_changes, phase_after, replicated, few_elements, zero_at_first, ◌▹◌, AreKept, always}

@@ -1,15 +1,8 @@
 -- the laws of the coordination programs on the machine
 use Rattle.std.specs.Prelude.{◌≡◌, ℕ, ◌*◌, ◌≤◌, List, [], true, false, nat_lt}
 use Rattle.ultra_isa.specs.declared.Instr.{Instr}
-use Rattle.ultra_model.specs.Machine.{Settings, Machine, size}
-use Rattle.ultra_model.specs.Phases.{after}
-use Rattle.ultra_model.specs.Ranges.{AreInRange}
-use Rattle.ultra_model.specs.Trace.{cell_value}
-use Rattle.ultra_colib.specs.Schedules.{CellWords}
-use Rattle.ultra_colib.specs.Gate.{gate, AreFewInside}
-use Rattle.ultra_colib.specs.ReadersWriters.{readers_writers, AreWritersAlone}
-use Rattle.ultra_colib.specs.Barrier.{barrier, AreInStep}
-use Rattle.ultra_colib.specs.Queue.{queue, AreItemsOnce}
+use Rattle.ultra_model.specs.{Machine.{Settings, Machine, size}, Phases.after, Ranges.AreInRange, Trace.cell_value}
+use Rattle.ultra_colib.specs.{Schedules.CellWords, Gate.{gate, AreFewInside}, ReadersWriters.{readers_writers, AreWritersAlone}, Barrier.{barrier, AreInStep}, Queue.{queue, AreItemsOnce}}
 
 -- the word in each cell of a machine; one that the memory hasn't counts as 0
 abbrev pub cell_words : Settings → Machine → CellWords

@@ -2,8 +2,7 @@
 use Rattle.std.specs.Prelude.{List, [], ◌∷◌}
 use Rattle.ultra_isa.specs.declared.Instr.{Instr}
 use Rattle.ultra_isa.specs.declared.Instr.TheVariants.{AddWord, Subtract, Number, Size, Store, Halt}
-use Rattle.ultra_colib.specs.Schedules.{IsKeptBySchedules}
-use Rattle.ultra_colib.specs.Queue.{AreItemsOnce}
+use Rattle.ultra_colib.specs.{Schedules.IsKeptBySchedules, Queue.AreItemsOnce}
 
 -- each processing element stores a number that some processing element would insert into its result
 -- cell of a queue with one place: no two store the same

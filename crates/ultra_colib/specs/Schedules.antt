@@ -1,8 +1,7 @@
 -- laws over the cells of a program that hold after every schedule of the paracomputer
 use Rattle.std.specs.Prelude.{All, ◌≡◌, ℕ, zero, suc, ◌+◌, ◌<◌, List, [], slice_index}
 use Rattle.ultra_isa.specs.declared.Instr.{Instr}
-use Rattle.ultra_model.specs.Machine.{Settings, size}
-use Rattle.ultra_model.specs.Ranges.{AreInRange}
+use Rattle.ultra_model.specs.{Machine.{Settings, size}, Ranges.AreInRange}
 use Rattle.ultra_para.specs.Para.{start_para, run_para}
 
 -- the word in each cell; one that the memory hasn't counts as 0

@@ -1,9 +1,7 @@
 -- a counter that hands out tickets, each once
 use Rattle.std.specs.Prelude.{All, ◌≡◌, ◌≢◌, ℕ, ◌<◌, ◌≤◌, List, [], ◌∷◌, slice_index}
-use Rattle.ultra_isa.specs.declared.Instr.{Instr}
-use Rattle.ultra_isa.specs.declared.Instr.TheVariants.{Set, Faa, Fence, Halt}
-use Rattle.ultra_model.specs.Machine.{Settings, size}
-use Rattle.ultra_model.specs.Ranges.{AreInRange}
+use Rattle.ultra_isa.specs.declared.Instr.{Instr, TheVariants.{Set, Faa, Fence, Halt}}
+use Rattle.ultra_model.specs.{Machine.{Settings, size}, Ranges.AreInRange}
 use Rattle.ultra_para.specs.Para.{Para, core_at, start_para, run_para}
 
 -- each processing element takes one ticket from cell 0 into register 1

@@ -3,13 +3,7 @@
 //!
 //! The gate's test, increment and retest are the 1983 paper's; the programs are this project's.
 
-ghost use Rattle.ultra_colib.specs.Barrier.{BarrierLaw};
-ghost use Rattle.ultra_colib.specs.Gate.{GateLaw};
-ghost use Rattle.ultra_colib.specs.NoQueue.{IsNoQueueRefused};
-ghost use Rattle.ultra_colib.specs.Queue.{QueueLaw};
-ghost use Rattle.ultra_colib.specs.ReadersWriters.{ReadersWritersLaw};
-ghost use Rattle.ultra_colib.specs.TicketRounds.{AllDrawnLaw, NextTicketLaw, NoTicketTwiceLaw, TicketRoundsLaw};
-ghost use Rattle.ultra_colib.specs.Tickets.{TicketsLaw};
+ghost use Rattle.ultra_colib.specs.{Barrier.BarrierLaw, Gate.GateLaw, NoQueue.IsNoQueueRefused, Queue.QueueLaw, ReadersWriters.ReadersWritersLaw, TicketRounds.{AllDrawnLaw, NextTicketLaw, NoTicketTwiceLaw, TicketRoundsLaw}, Tickets.TicketsLaw};
 
 /// The law of the ticket counter, as this function's contract: no two processing elements have
 /// taken the same ticket. It holds for all settings in their ranges without initial values and for

@@ -4,13 +4,7 @@ ghost use Rattle.std.specs.Prelude.{◌≡◌, ◌↔◌, List, true, false, IfO
 ghost use Rattle.ultra_isa.specs.declared.Instr.{Instr};
 ghost use Rattle.ultra_asm.specs.ProgramText.{IsProgramText};
 ghost use Rattle.ultra_para.specs.Careful.{is_careful};
-ghost use Rattle.ultra_colib.specs.Gate.{gate};
-ghost use Rattle.ultra_colib.specs.ReadersWriters.{readers_writers};
-ghost use Rattle.ultra_colib.specs.Barrier.{barrier};
-ghost use Rattle.ultra_colib.specs.Queue.{queue};
-ghost use Rattle.ultra_colib.specs.TicketRounds.{ticket_rounds};
-ghost use Rattle.ultra_colib.specs.Texts.{gate_text as text_of_gate, rw_text as text_of_rw, barrier_text as text_of_barrier, queue_text as text_of_queue, tickets_text as text_of_tickets};
-ghost use Rattle.ultra_colib.specs.Parameters.{gate_takes, rw_takes, barrier_takes, queue_takes};
+ghost use Rattle.ultra_colib.specs.{Gate.gate, ReadersWriters.readers_writers, Barrier.barrier, Queue.queue, TicketRounds.ticket_rounds, Texts.{gate_text as text_of_gate, rw_text as text_of_rw, barrier_text as text_of_barrier, queue_text as text_of_queue, tickets_text as text_of_tickets}, Parameters.{gate_takes, rw_takes, barrier_takes, queue_takes}};
 
 use crate::ColibFault;
 use crate::texts::{barrier_text, gate_text, queue_text, rw_text, tickets_text};

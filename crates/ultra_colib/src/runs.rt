@@ -2,14 +2,9 @@
 
 ghost use Rattle.std.specs.Prelude.{◌≡◌, ◌↔◌, ◌<◌, ◌&&◌, All, Bool, false, List, [], IfOk, slice_index};
 ghost use Rattle.ultra_isa.specs.declared.Instr.{Instr};
-ghost use Rattle.ultra_model.specs.Machine.{size, is_empty};
-ghost use Rattle.ultra_model.specs.Ranges.{AreInRange};
+ghost use Rattle.ultra_model.specs.{Machine.{size, is_empty}, Ranges.AreInRange};
 ghost use Rattle.ultra_para.specs.Para.{start_para, run_para};
-ghost use Rattle.ultra_colib.specs.Gate.{gate, AreFewInside};
-ghost use Rattle.ultra_colib.specs.ReadersWriters.{readers_writers, AreWritersAlone};
-ghost use Rattle.ultra_colib.specs.Barrier.{barrier, AreInStep};
-ghost use Rattle.ultra_colib.specs.Queue.{queue, AreItemsOnce};
-ghost use Rattle.ultra_colib.specs.Parameters.{gate_takes, rw_takes, barrier_takes, queue_takes};
+ghost use Rattle.ultra_colib.specs.{Gate.{gate, AreFewInside}, ReadersWriters.{readers_writers, AreWritersAlone}, Barrier.{barrier, AreInStep}, Queue.{queue, AreItemsOnce}, Parameters.{gate_takes, rw_takes, barrier_takes, queue_takes}};
 
 use crate::ColibFault;
 use crate::programs::{barrier_program, gate_program, queue_program, rw_program};

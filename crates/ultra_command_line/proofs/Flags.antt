@@ -1,8 +1,7 @@
 -- the words `--help` and `--version`
 use Rattle.std.proofs.Common.{◌∙◌, ◌≡◌, ◌≢◌, ◌⊎◌, ap, inl, inr, subst, sym, List, [], ◌∷◌, codes, refl}
-use Rattle.clap.specs.Words.{Text, fault_of, IsAmong}
+use Rattle.clap.specs.{Words.{Text, fault_of, IsAmong}, declared.error.ErrorKind.ErrorKind}
 use Rattle.clap.proofs.OnLiterals.{clap_on_literals}
-use Rattle.clap.specs.declared.error.ErrorKind.{ErrorKind}
 use Rattle.clap.specs.declared.error.ErrorKind.TheVariants as kind
 use Rattle.ultra_command_line.specs.declared.Parsed.{Parsed}
 use Rattle.ultra_command_line.specs.declared.Parsed.TheVariants as parsed

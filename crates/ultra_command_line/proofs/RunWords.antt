@@ -1,22 +1,13 @@
 -- the words of a run of two paths
 use Rattle.std.proofs.Common.{◌∙◌, ◌≡◌, ap, inl, inr, subst, sym, false, List, [], ◌∷◌, Some, None, codes, refl}
-use Rattle.std.proofs.lemmas.Bool.{ne_eqb}
-use Rattle.std.proofs.lemmas.Option.{same_Some}
-use Rattle.std.specs.Prelude.{◌==◌}
-use Rattle.std.specs.Str.{bytes_eq}
-use Rattle.clap.specs.Lexer.{long_of, short_of}
-use Rattle.clap.specs.Words.{Row, Text, fault_of, subcommand_of, IsAmong}
-use Rattle.clap.specs.declared.parser.matches.ValueSource.{ValueSource}
-use Rattle.clap.specs.declared.parser.matches.ValueSource.TheVariants.{CommandLine, DefaultValue}
-use Rattle.clap.specs.declared.builder.value_parser.Reading.TheVariants.{AsWritten}
+use Rattle.std.proofs.lemmas.{Bool.ne_eqb, Option.same_Some}
+use Rattle.std.specs.{Prelude.◌==◌, Str.bytes_eq}
+use Rattle.clap.specs.{Lexer.{long_of, short_of}, Words.{Row, Text, fault_of, subcommand_of, IsAmong}, declared.{parser.matches.ValueSource.{ValueSource, TheVariants.{CommandLine, DefaultValue}}, builder.value_parser.Reading.TheVariants.AsWritten, error.ErrorKind.ErrorKind}}
 use Rattle.clap.proofs.OnLiterals.{clap_on_literals}
-use Rattle.clap.specs.declared.error.ErrorKind.{ErrorKind}
-use Rattle.ultra_command_line.specs.declared.Parsed.{Parsed}
+use Rattle.ultra_command_line.specs.{declared.Parsed.Parsed, Answer.{AreRunOf, IsAskedBy, IsFault, IsPath, IsRunOf}}
 use Rattle.ultra_command_line.specs.declared.Parsed.TheVariants as parsed
 use Rattle.ultra_args.specs.Asked.{Asked, asked, command_among, command_named, named_in, run}
-use Rattle.ultra_command_line.specs.Answer.{AreRunOf, IsAskedBy, IsFault, IsPath, IsRunOf}
-use Rattle.ultra_args.specs.declared.LineFilter.TheVariants.{All}
-use Rattle.ultra_args.specs.Grammar.{ultra_app}
+use Rattle.ultra_args.specs.{declared.LineFilter.TheVariants.All, Grammar.ultra_app}
 
 -- a word that begins with no hyphen is no flag
 record IsPlainWord (t : Text) : Type 0 where

@@ -1,14 +1,8 @@
 -- what the answer to the arguments of a command line says
-use Rattle.std.specs.Prelude.{◌≡◌, ◌≢◌, ◌⊎◌, ⊤, List, [], ◌∷◌, codes, slice_index, Some, None}
-use Rattle.std.specs.Prelude.{Result, MatchResult}
-use Rattle.clap.specs.Words.{Text, fault_of, kind_of, IsAmong}
-use Rattle.clap.specs.declared.Error.{Error}
-use Rattle.clap.specs.declared.error.ErrorKind.{ErrorKind}
+use Rattle.std.specs.Prelude.{◌≡◌, ◌≢◌, ◌⊎◌, ⊤, List, [], ◌∷◌, codes, slice_index, Some, None, Result, MatchResult}
+use Rattle.clap.specs.{Words.{Text, fault_of, kind_of, IsAmong}, declared.{Error.Error, error.ErrorKind.ErrorKind}}
 use Rattle.clap.specs.declared.error.ErrorKind.TheVariants as kind
-use Rattle.ultra_args.specs.declared.Invocation.{Invocation}
-use Rattle.ultra_args.specs.declared.LineFilter.TheVariants.{All}
-use Rattle.ultra_args.specs.Asked.{asked, asked_of, run}
-use Rattle.ultra_args.specs.Grammar.{ultra_app}
+use Rattle.ultra_args.specs.{declared.{Invocation.Invocation, LineFilter.TheVariants.All}, Asked.{asked, asked_of, run}, Grammar.ultra_app}
 use Rattle.ultra_command_line.specs.declared.Parsed.{Parsed}
 use Rattle.ultra_command_line.specs.declared.Parsed.TheVariants as parsed
 

@@ -4,12 +4,9 @@
 mod usage;
 
 ghost use Rattle.std.specs.Prelude.{◌≡◌, ◌≢◌, [], codes, map, option_map, IfOk, MatchResult};
-ghost use Rattle.clap.specs.Words.{fault_of, kind_of, HasKind, Text};
-ghost use Rattle.clap.specs.declared.error.ErrorKind.TheVariants.{OutOfMemory};
-ghost use Rattle.ultra_args.specs.Asked.{asked, asked_of};
-ghost use Rattle.ultra_args.specs.Grammar.{ultra_app, IsApp};
-ghost use Rattle.ultra_command_line.specs.Answer.{AreOnly, AreRunOf, IsAnswer, IsAskedBy};
-ghost use Rattle.ultra_command_line.specs.Answer.{IsHelp, IsRunOf, IsTextOfKind, IsVersion};
+ghost use Rattle.clap.specs.{Words.{fault_of, kind_of, HasKind, Text}, declared.error.ErrorKind.TheVariants.OutOfMemory};
+ghost use Rattle.ultra_args.specs.{Asked.{asked, asked_of}, Grammar.{ultra_app, IsApp}};
+ghost use Rattle.ultra_command_line.specs.Answer.{AreOnly, AreRunOf, IsAnswer, IsAskedBy, IsHelp, IsRunOf, IsTextOfKind, IsVersion};
 
 use clap::error::ErrorKind;
 use std::alloc::{AllocError, Global};

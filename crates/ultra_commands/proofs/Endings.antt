@@ -6,34 +6,21 @@ use Rattle.ultra_settings.specs.JobsText.{Paths}
 use Rattle.ultra_isa.specs.declared.Instr.{Instr}
 use Rattle.ultra_model.specs.Machine.{Settings}
 use Rattle.ultra_io.specs.Account.{SinkState}
-use Rattle.ultra_inputs.specs.declared.failure.Failure.{Failure}
+use Rattle.ultra_inputs.specs.{declared.failure.Failure.Failure, Failure.{status_of, read_failures, write_failures}, Traffic.{Traffic, IsStopped, WroteText, TextFails}, Shown.IsReported, Status.{IsStatus, IsRefusal, status_failures}}
 use Rattle.ultra_inputs.specs.declared.failure.Failure.TheVariants.{NotFenced, NotLegal, NoThread, HeapTooSmall, HeapFull, NotWritten}
-use Rattle.ultra_inputs.specs.Failure.{status_of, read_failures, write_failures}
-use Rattle.ultra_inputs.specs.Traffic.{Traffic, IsStopped, WroteText, TextFails}
-use Rattle.ultra_commands.specs.Listing.{ListFails, unread_text, refused_text, unwritten, not_careful}
-use Rattle.ultra_trace_alone.specs.declared.part.TracePart.{TracePart}
-use Rattle.ultra_trace_alone.specs.Part.{part_of}
+use Rattle.ultra_commands.specs.{Listing.{ListFails, unread_text, refused_text, unwritten, not_careful}, Check.{CheckFails, failure_of_verdict}, Paracomputer.{ParaFails, seeded_text}, Stops.{IsStoppedBy, RunFails}, Coordination.LibFails, Outcome.{ExplainFails, Obeyed, NotObeyed, HasReported, HasEnded}}
+use Rattle.ultra_trace_alone.specs.{declared.part.TracePart.TracePart, Part.part_of}
 use Rattle.ultra_verdict.specs.declared.VerdictFault.{VerdictFault}
 use Rattle.ultra_verdict.specs.declared.VerdictFault.TheVariants as verdict
-use Rattle.ultra_args.specs.declared.ScheduleSource.{ScheduleSource}
-use Rattle.ultra_args.specs.declared.ScheduleSource.TheVariants.{File, Seed}
+use Rattle.ultra_args.specs.declared.{ScheduleSource.{ScheduleSource, TheVariants.{File, Seed}}, Coordination.Coordination, sweep_output.SweepOutput.SweepOutput}
 use Rattle.ultra_commands.specs.Check as check
-use Rattle.ultra_commands.specs.Check.{CheckFails, failure_of_verdict}
 use Rattle.ultra_commands.specs.Paracomputer as para
-use Rattle.ultra_commands.specs.Paracomputer.{ParaFails, seeded_text}
-use Rattle.ultra_commands.specs.Stops.{IsStoppedBy, RunFails}
 use Rattle.ultra_explain_command.specs.Explanation.{explanation_of, EndsFull, IsCutShort}
 use Rattle.ultra_commands.specs.Coordination as lib
-use Rattle.ultra_commands.specs.Coordination.{LibFails}
-use Rattle.ultra_args.specs.declared.Coordination.{Coordination}
 use Rattle.ultra_command_line.specs.declared.Parsed.{Parsed}
-use Rattle.ultra_inputs.specs.Shown.{IsReported}
-use Rattle.ultra_args.specs.declared.sweep_output.SweepOutput.{SweepOutput}
 use Rattle.ultra_sweep_command.specs.Sweep as sweep
 use Rattle.ultra_sweep_command.specs.Sweep.{Swept, SweepFails, HasFailed, JobsFail}
-use Rattle.ultra_inputs.specs.Status.{IsStatus, IsRefusal, status_failures}
 use Rattle.ultra_inputs.proofs.Endings.{ends, not_four, not_five, ended_by, is_unwritten, is_stopped, stopped_refused, text_refused}
-use Rattle.ultra_commands.specs.Outcome.{ExplainFails, Obeyed, NotObeyed, HasReported, HasEnded}
 
 not_one : ¬ IsRefusal 1
 not_one (inl e) = cc

@@ -1,12 +1,8 @@
 -- the part with all lines of all cycles is the trace
 use Rattle.std.proofs.Common.{◌≡◌, ◌∙◌, ℕ, ◌≤◌, List, ap, refl}
 use Rattle.ultra_isa.specs.declared.Instr.{Instr}
-use Rattle.ultra_model.specs.Machine.{Settings}
-use Rattle.ultra_model.specs.Trace.{trace}
-use Rattle.ultra_trace_alone.specs.declared.part.CycleLines.{CycleLines}
-use Rattle.ultra_trace_alone.specs.declared.part.CycleLines.TheVariants.{All}
-use Rattle.ultra_trace_alone.specs.declared.part.TracePart.{TracePart}
-use Rattle.ultra_trace_alone.specs.Part.{part_of}
+use Rattle.ultra_model.specs.{Machine.Settings, Trace.trace}
+use Rattle.ultra_trace_alone.specs.{declared.part.{CycleLines.{CycleLines, TheVariants.All}, TracePart.TracePart}, Part.part_of}
 use Rattle.ultra_trace_alone.proofs.Parts.{whole_part}
 use Rattle.ultra_commands.specs.Stops.{IsAll}
 

@@ -3,16 +3,11 @@ use Rattle.std.specs.Prelude.{◌≡◌, ℕ, List, true, false, ⊤}
 use Rattle.ultra_isa.specs.declared.Instr.{Instr}
 use Rattle.ultra_model.specs.Machine.{Settings}
 use Rattle.ultra_list.specs.declared.ListFault.TheVariants as fault
-use Rattle.ultra_list.specs.Faults.{ExplainsListFault}
-use Rattle.ultra_list.specs.SerialText.{IsListText}
-use Rattle.ultra_verdict.specs.declared.VerdictFault.{VerdictFault}
+use Rattle.ultra_list.specs.{Faults.ExplainsListFault, SerialText.IsListText}
+use Rattle.ultra_verdict.specs.{declared.VerdictFault.VerdictFault, Faults.{IsVerdictWritten, VerdictFails}}
 use Rattle.ultra_verdict.specs.declared.VerdictFault.TheVariants as verdict
-use Rattle.ultra_verdict.specs.Faults.{IsVerdictWritten, VerdictFails}
-use Rattle.ultra_inputs.specs.declared.failure.Failure.{Failure}
-use Rattle.ultra_inputs.specs.declared.failure.Failure.TheVariants.{NotAnEntry, NotLegal, NoMemory, NotWritten}
-use Rattle.ultra_inputs.specs.Traffic.{Traffic}
-use Rattle.ultra_commands.specs.declared.checking.ListedEntries.{ListedEntries}
-use Rattle.ultra_commands.specs.ThirdFile.{GaveThree, GaveNoThree}
+use Rattle.ultra_inputs.specs.{declared.failure.Failure.{Failure, TheVariants.{NotAnEntry, NotLegal, NoMemory, NotWritten}}, Traffic.Traffic}
+use Rattle.ultra_commands.specs.{declared.checking.ListedEntries.ListedEntries, ThirdFile.{GaveThree, GaveNoThree}}
 
 -- the text of a file is the text of this list
 abbrev pub IsListOf : List ℕ → ListedEntries → Type 0

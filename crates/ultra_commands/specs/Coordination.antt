@@ -3,17 +3,9 @@ use Rattle.std.specs.Prelude.{◌≡◌, ℕ, Bool, true, false, List, ◌++◌}
 use Rattle.ultra_msg.specs.Bytes.{TakesPrefix}
 use Rattle.ultra_isa.specs.declared.Instr.{Instr}
 use Rattle.ultra_asm.specs.Listing.{listing_text}
-use Rattle.ultra_colib.specs.Gate.{gate}
-use Rattle.ultra_colib.specs.Queue.{queue}
-use Rattle.ultra_colib.specs.ReadersWriters.{readers_writers}
-use Rattle.ultra_colib.specs.Barrier.{barrier}
-use Rattle.ultra_colib.specs.TicketRounds.{ticket_rounds}
-use Rattle.ultra_colib.specs.Parameters.{gate_takes, queue_takes, rw_takes, barrier_takes}
-use Rattle.ultra_args.specs.declared.Coordination.{Coordination}
-use Rattle.ultra_args.specs.declared.Coordination.TheVariants.{Gate, Queue, ReadersWriters}
-use Rattle.ultra_args.specs.declared.Coordination.TheVariants.{Barrier, Tickets}
-use Rattle.ultra_inputs.specs.declared.failure.Failure.{Failure}
-use Rattle.ultra_inputs.specs.declared.failure.Failure.TheVariants.{BadParameter, NoMemory, NotWritten}
+use Rattle.ultra_colib.specs.{Gate.gate, Queue.queue, ReadersWriters.readers_writers, Barrier.barrier, TicketRounds.ticket_rounds, Parameters.{gate_takes, queue_takes, rw_takes, barrier_takes}}
+use Rattle.ultra_args.specs.declared.Coordination.{Coordination, TheVariants.{Gate, Queue, ReadersWriters, Barrier, Tickets}}
+use Rattle.ultra_inputs.specs.declared.failure.Failure.{Failure, TheVariants.{BadParameter, NoMemory, NotWritten}}
 
 -- whether the parameters are in their ranges
 abbrev pub are_taken : Coordination → Bool

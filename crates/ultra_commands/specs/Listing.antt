@@ -6,10 +6,7 @@ use Rattle.ultra_isa.specs.declared.Instr.{Instr}
 use Rattle.ultra_asm.specs.Listing.{listing_text}
 use Rattle.ultra_para.specs.Careful.{is_careful, IsFirstUnfenced}
 use Rattle.ultra_io.specs.Source.{file_of}
-use Rattle.ultra_inputs.specs.declared.failure.Failure.{Failure}
-use Rattle.ultra_inputs.specs.declared.failure.Failure.TheVariants.{NotFenced, NotWritten}
-use Rattle.ultra_inputs.specs.Inputs.{IsProgramOf, IsUnread, ExplainsProgram}
-use Rattle.ultra_inputs.specs.Traffic.{Traffic, with_files}
+use Rattle.ultra_inputs.specs.{declared.failure.Failure.{Failure, TheVariants.{NotFenced, NotWritten}}, Inputs.{IsProgramOf, IsUnread, ExplainsProgram}, Traffic.{Traffic, with_files}}
 
 -- a file was read, and the canonical text of its program was written. The program is careful, if
 -- that was asked

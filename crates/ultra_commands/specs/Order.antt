@@ -1,8 +1,7 @@
 -- the serial order of a run as text; this project's profile
 use Rattle.std.specs.Prelude.{ℕ, List}
 use Rattle.ultra_isa.specs.declared.Instr.{Instr}
-use Rattle.ultra_model.specs.Machine.{Settings}
-use Rattle.ultra_model.specs.Trace.{cycle_count}
+use Rattle.ultra_model.specs.{Machine.Settings, Trace.cycle_count}
 use Rattle.ultra_serial_law.specs.SerialList.{serial_list}
 pub use Rattle.ultra_list.specs.SerialText.{operation_text, order_line, order_text}
 

@@ -4,24 +4,12 @@ use Rattle.ultra_msg.specs.Bytes.{TakesPrefix}
 use Rattle.ultra_args.specs.declared.Invocation.TheVariants.{Run, Events, Requests, Measure, Order, Explain, Check, Para, List as ListOf, Sweep, Lib}
 use Rattle.ultra_command_line.specs.declared.Parsed.{Parsed}
 use Rattle.ultra_command_line.specs.declared.Parsed.TheVariants as parsed
-use Rattle.ultra_inputs.specs.declared.failure.Failure.{Failure}
-use Rattle.ultra_inputs.specs.declared.failure.Failure.TheVariants.{Usage, NoMemory, HeapTooSmall, HeapFull, NotWritten}
-use Rattle.ultra_inputs.specs.Traffic.{Traffic, IsStopped, WroteText, TextFails}
-use Rattle.ultra_inputs.specs.Failure.{status_of, read_failures}
+use Rattle.ultra_inputs.specs.{declared.failure.Failure.{Failure, TheVariants.{Usage, NoMemory, HeapTooSmall, HeapFull, NotWritten}}, Traffic.{Traffic, IsStopped, WroteText, TextFails}, Failure.{status_of, read_failures}, Shown.IsReported, Status.{IsStatus, IsRefusal, status_failures}}
 use Rattle.ultra_io.specs.Account.{SinkState}
-use Rattle.ultra_commands.specs.Listing.{WroteListing, ListFails}
-use Rattle.ultra_commands.specs.Stops.{WroteRun, RunFails}
-use Rattle.ultra_commands.specs.Outputs.{measures_asked, part_asked}
-use Rattle.ultra_commands.specs.Check.{WroteLegal, CheckFails}
-use Rattle.ultra_commands.specs.Paracomputer.{WrotePara, ParaFails}
-use Rattle.ultra_commands.specs.Order.{order_of}
+use Rattle.ultra_commands.specs.{Listing.{WroteListing, ListFails}, Stops.{WroteRun, RunFails}, Outputs.{measures_asked, part_asked}, Check.{WroteLegal, CheckFails}, Paracomputer.{WrotePara, ParaFails}, Order.order_of, Coordination.{WroteProgram, LibFails}}
 use Rattle.ultra_explain_command.specs.Explanation.{explanation_of, EndsFull, IsCutShort}
-use Rattle.ultra_commands.specs.Coordination.{WroteProgram, LibFails}
-use Rattle.ultra_inputs.specs.Shown.{IsReported}
-use Rattle.ultra_inputs.specs.Status.{IsStatus, IsRefusal, status_failures}
 use Rattle.ultra_sweep_command.specs.Sweep.{Swept, SweepFails}
-use Rattle.ultra_requests.specs.EventLines.{events_of}
-use Rattle.ultra_requests.specs.RequestTable.{requests_of}
+use Rattle.ultra_requests.specs.{EventLines.events_of, RequestTable.requests_of}
 
 -- how an explanation fails: where the heap is full, the lines before a combination are written, and
 -- nothing where it is too small

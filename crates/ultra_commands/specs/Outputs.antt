@@ -2,12 +2,9 @@
 use Rattle.std.specs.Prelude.{ℕ, List, Bool, true, false, Option, Some, None}
 use Rattle.ultra_isa.specs.declared.Instr.{Instr}
 use Rattle.ultra_model.specs.Machine.{Settings}
-use Rattle.ultra_trace_alone.specs.declared.part.CycleLines.{CycleLines}
+use Rattle.ultra_trace_alone.specs.declared.part.{CycleLines.CycleLines, TracePart.TracePart}
 use Rattle.ultra_trace_alone.specs.declared.part.CycleLines.TheVariants as lines
-use Rattle.ultra_trace_alone.specs.declared.part.TracePart.{TracePart}
-use Rattle.ultra_measure.specs.declared.measuring.Layout.{Layout}
-use Rattle.ultra_measure.specs.declared.measuring.Layout.TheVariants.{Lines, Table}
-use Rattle.ultra_measure.specs.Texts.{measured}
+use Rattle.ultra_measure.specs.{declared.measuring.Layout.{Layout, TheVariants.{Lines, Table}}, Texts.measured}
 use Rattle.ultra_args.specs.declared.LineFilter.{LineFilter}
 use Rattle.ultra_args.specs.declared.LineFilter.TheVariants as filter
 

@@ -4,17 +4,10 @@ use Rattle.ultra_msg.specs.Bytes.{TakesPrefix}
 use Rattle.ultra_isa.specs.declared.Instr.{Instr}
 use Rattle.ultra_model.specs.Machine.{Settings, size}
 use Rattle.ultra_para_run.specs.declared.reading.ScheduleFault.TheVariants as fault
-use Rattle.ultra_para_run.specs.ParaText.{para_text}
-use Rattle.ultra_para_run.specs.ScheduleFaults.{ExplainsScheduleFault}
-use Rattle.ultra_para_run.specs.ScheduleText.{IsScheduleText}
-use Rattle.ultra_para_run.specs.SeededSchedule.{most_steps, seeded_schedule}
-use Rattle.ultra_args.specs.declared.ScheduleSource.{ScheduleSource}
-use Rattle.ultra_args.specs.declared.ScheduleSource.TheVariants.{File, Seed}
-use Rattle.ultra_inputs.specs.declared.failure.Failure.{Failure}
-use Rattle.ultra_inputs.specs.declared.failure.Failure.TheVariants.{BadPe, NoMemory}
-use Rattle.ultra_inputs.specs.Traffic.{Traffic, IsStopped, WroteText, TextFails}
-use Rattle.ultra_commands.specs.declared.para.ScheduledSteps.{ScheduledSteps}
-use Rattle.ultra_commands.specs.ThirdFile.{GaveThree, GaveNoThree}
+use Rattle.ultra_para_run.specs.{ParaText.para_text, ScheduleFaults.ExplainsScheduleFault, ScheduleText.IsScheduleText, SeededSchedule.{most_steps, seeded_schedule}}
+use Rattle.ultra_args.specs.declared.ScheduleSource.{ScheduleSource, TheVariants.{File, Seed}}
+use Rattle.ultra_inputs.specs.{declared.failure.Failure.{Failure, TheVariants.{BadPe, NoMemory}}, Traffic.{Traffic, IsStopped, WroteText, TextFails}}
+use Rattle.ultra_commands.specs.{declared.para.ScheduledSteps.ScheduledSteps, ThirdFile.{GaveThree, GaveNoThree}}
 
 -- the text of a file writes this schedule, of numbers of processing elements
 pub record IsScheduleOf (c : Settings) (text : List ℕ) (s : ScheduledSteps) : Type 0 where

@@ -1,14 +1,9 @@
 -- what is written of a trace, and why it ended early; this project's profile
 use Rattle.std.specs.Prelude.{◌≡◌, ◌≢◌, ℕ, List, ◌⊎◌}
-use Rattle.ultra_trace.specs.Trace.{trace}
-use Rattle.ultra_trace.specs.RunFault.{RunFault}
+use Rattle.ultra_trace.specs.{Trace.trace, RunFault.RunFault}
 use Rattle.ultra_trace.specs.RunFault.TheVariants as run
-use Rattle.ultra_trace_alone.specs.declared.part.CycleLines.TheVariants.{All}
-use Rattle.ultra_trace_alone.specs.declared.part.TracePart.{TracePart}
-use Rattle.ultra_trace_alone.specs.Part.{part_of}
-use Rattle.ultra_inputs.specs.Traffic.{Traffic, IsStopped, WroteText, TextFails}
-use Rattle.ultra_inputs.specs.declared.failure.Failure.{Failure}
-use Rattle.ultra_inputs.specs.declared.failure.Failure.TheVariants.{NoMemory, NoThread, NotWritten}
+use Rattle.ultra_trace_alone.specs.{declared.part.{CycleLines.TheVariants.All, TracePart.TracePart}, Part.part_of}
+use Rattle.ultra_inputs.specs.{Traffic.{Traffic, IsStopped, WroteText, TextFails}, declared.failure.Failure.{Failure, TheVariants.{NoMemory, NoThread, NotWritten}}}
 
 -- what a fault of a run is for the command
 abbrev pub failure_of_run : RunFault → Failure

@@ -3,8 +3,7 @@ use Rattle.std.specs.Prelude.{ℕ, List}
 use Rattle.ultra_isa.specs.declared.Instr.{Instr}
 use Rattle.ultra_model.specs.Machine.{Settings}
 use Rattle.ultra_io.specs.Source.{File}
-use Rattle.ultra_inputs.specs.declared.failure.Failure.{Failure}
-use Rattle.ultra_inputs.specs.Inputs.{FileGave, FileGaveNothing, Gave, GaveNothing}
+use Rattle.ultra_inputs.specs.{declared.failure.Failure.Failure, Inputs.{FileGave, FileGaveNothing, Gave, GaveNothing}}
 
 -- three files were read: two give these settings and this program, and the third a value for them
 pub record GaveThree {X : Type 0} (Gives : Settings → List ℕ → X → Type 0)

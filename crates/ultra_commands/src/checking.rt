@@ -1,8 +1,7 @@
 //! The command `check`: it judges whether a list is a serial order of a run.
 
 ghost use Rattle.std.specs.Prelude.{◌≡◌, ◌+◌, IfErr, IfOk, OnOk};
-ghost use Rattle.ultra_inputs.specs.Failure.{read_failures, write_failures};
-ghost use Rattle.ultra_inputs.specs.Traffic.{traffic};
+ghost use Rattle.ultra_inputs.specs.{Failure.{read_failures, write_failures}, Traffic.traffic};
 ghost use Rattle.ultra_commands.specs.Check.{failure_of_verdict, CheckFails, ExplainsList, IsListOf, WroteLegal};
 
 use crate::third_file::{ThirdFile, read_three};

@@ -12,11 +12,8 @@ mod third_file;
 mod trace;
 
 ghost use Rattle.std.specs.Prelude.{◌≡◌, ◌≢◌, ◌+◌, map};
-ghost use Rattle.ultra_command_line.specs.Answer.{IsAskedBy};
-ghost use Rattle.ultra_command_line.specs.declared.Parsed.{Parsed};
-ghost use Rattle.ultra_inputs.specs.Shown.{stream};
-ghost use Rattle.ultra_inputs.specs.Traffic.{traffic};
-ghost use Rattle.ultra_inputs.specs.Status.{status_failures, IsRefusal, IsStatus};
+ghost use Rattle.ultra_command_line.specs.{Answer.IsAskedBy, declared.Parsed.Parsed};
+ghost use Rattle.ultra_inputs.specs.{Shown.stream, Traffic.traffic, Status.{status_failures, IsRefusal, IsStatus}};
 ghost use Rattle.ultra_commands.specs.Outcome.{Obeyed, Failed, HasEnded, HasReported};
 
 use crate::checking::check;

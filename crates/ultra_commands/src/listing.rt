@@ -2,8 +2,7 @@
 
 ghost use Rattle.std.specs.Prelude.{◌≡◌, ◌+◌, true, is_none, IfErr, IfSome, OnOk};
 ghost use Rattle.ultra_para.specs.Careful.{is_careful, IsFirstUnfenced};
-ghost use Rattle.ultra_inputs.specs.Failure.{read_failures, write_failures};
-ghost use Rattle.ultra_inputs.specs.Traffic.{traffic};
+ghost use Rattle.ultra_inputs.specs.{Failure.{read_failures, write_failures}, Traffic.traffic};
 ghost use Rattle.ultra_commands.specs.Listing.{WroteListing, ListFails};
 
 use std::alloc::Global;

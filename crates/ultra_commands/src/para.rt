@@ -1,8 +1,7 @@
 //! The command `para`: it runs the paracomputer, and writes what its steps do.
 
 ghost use Rattle.std.specs.Prelude.{◌≡◌, ◌+◌, IfErr, IfOk, OnOk};
-ghost use Rattle.ultra_inputs.specs.Failure.{read_failures, write_failures};
-ghost use Rattle.ultra_inputs.specs.Traffic.{traffic};
+ghost use Rattle.ultra_inputs.specs.{Failure.{read_failures, write_failures}, Traffic.traffic};
 ghost use Rattle.ultra_commands.specs.Paracomputer.{seeded_text, ExplainsSchedule, IsScheduleOf, ParaFails, ScheduledFails, WrotePara, WroteScheduled};
 
 use crate::run_output::{RunOutput, write_run_output};

@@ -4,8 +4,7 @@ ghost use Rattle.std.specs.Prelude.{◌≡◌, ◌+◌, ◌++◌, ℕ, List, IfE
 ghost use Rattle.ultra_msg.specs.Bytes.{TakesPrefix};
 ghost use Rattle.ultra_isa.specs.declared.Instr.{Instr};
 ghost use Rattle.ultra_model.specs.Machine.{Settings};
-ghost use Rattle.ultra_inputs.specs.Failure.{read_failures, write_failures};
-ghost use Rattle.ultra_inputs.specs.Traffic.{traffic, IsStopped, WroteText, TextFails};
+ghost use Rattle.ultra_inputs.specs.{Failure.{read_failures, write_failures}, Traffic.{traffic, IsStopped, WroteText, TextFails}};
 
 use std::alloc::Global;
 use ultra_inputs::{Failure, Inputs, read_inputs};

@@ -2,14 +2,11 @@
 
 ghost use Rattle.std.specs.Prelude.{◌≡◌, ◌≢◌};
 ghost use Rattle.ultra_measure.specs.Texts.{HasWindows};
-ghost use Rattle.ultra_requests.specs.EventLines.{events_of};
-ghost use Rattle.ultra_requests.specs.RequestTable.{requests_of};
+ghost use Rattle.ultra_requests.specs.{EventLines.events_of, RequestTable.requests_of};
 ghost use Rattle.ultra_trace_alone.specs.Faults.{sink_faults};
 ghost use Rattle.ultra_trace.specs.RunFault.TheVariants.{NoThread};
-ghost use Rattle.ultra_inputs.specs.Failure.{write_failures};
-ghost use Rattle.ultra_inputs.specs.Traffic.{IsStopped};
-ghost use Rattle.ultra_commands.specs.Outputs.{layout_asked, measures_asked};
-ghost use Rattle.ultra_commands.specs.Stops.{failure_of_run};
+ghost use Rattle.ultra_inputs.specs.{Failure.write_failures, Traffic.IsStopped};
+ghost use Rattle.ultra_commands.specs.{Outputs.{layout_asked, measures_asked}, Stops.failure_of_run};
 
 use crate::run_output::RunOutput;
 use crate::trace::failure_of_run;

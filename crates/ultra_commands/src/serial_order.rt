@@ -4,8 +4,7 @@ ghost use Rattle.std.specs.Prelude.{◌≡◌, ◌+◌, ◌++◌, false, IfErr, 
 ghost use Rattle.ultra_msg.specs.Bytes.{TakesPrefix};
 ghost use Rattle.ultra_io.specs.TextBuffer.{Writes, WritesPrefix, has_failed};
 ghost use Rattle.ultra_serial.specs.OrderedRunState.{whole_list};
-ghost use Rattle.ultra_inputs.specs.Failure.{write_failures};
-ghost use Rattle.ultra_inputs.specs.Traffic.{IsStopped};
+ghost use Rattle.ultra_inputs.specs.{Failure.write_failures, Traffic.IsStopped};
 ghost use Rattle.ultra_commands.specs.Order.{order_of, order_text};
 
 use crate::run_output::RunOutput;

@@ -2,9 +2,7 @@
 
 ghost use Rattle.std.specs.Prelude.{◌≡◌, ◌+◌, ℕ, List, IfErr, IfOk, OnOk};
 ghost use Rattle.ultra_model.specs.Machine.{Settings};
-ghost use Rattle.ultra_inputs.specs.declared.failure.Failure.{Failure};
-ghost use Rattle.ultra_inputs.specs.Failure.{read_failures};
-ghost use Rattle.ultra_inputs.specs.Inputs.{FileGave, FileGaveNothing};
+ghost use Rattle.ultra_inputs.specs.{declared.failure.Failure.Failure, Failure.read_failures, Inputs.{FileGave, FileGaveNothing}};
 ghost use Rattle.ultra_commands.specs.ThirdFile.{GaveThree, GaveNoThree};
 
 use std::alloc::Global;

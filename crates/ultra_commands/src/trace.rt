@@ -3,12 +3,9 @@
 ghost use Rattle.std.specs.Prelude.{◌≡◌, ◌≢◌, ◌+◌, ◌≤◌, ◌++◌, IfErr, IsTrue, OnErr, OnOk};
 ghost use Rattle.ultra_msg.specs.Bytes.{TakesPrefix};
 ghost use Rattle.ultra_trace.specs.RunFault.TheVariants.{NoThread};
-ghost use Rattle.ultra_trace_alone.specs.Faults.{sink_faults};
-ghost use Rattle.ultra_trace_alone.specs.Part.{part_of};
-ghost use Rattle.ultra_inputs.specs.Failure.{read_failures, write_failures};
-ghost use Rattle.ultra_inputs.specs.Traffic.{traffic};
-ghost use Rattle.ultra_commands.specs.Outputs.{lines_asked, part_asked};
-ghost use Rattle.ultra_commands.specs.Stops.{failure_of_run, IsAll, RunFails, WroteRun};
+ghost use Rattle.ultra_trace_alone.specs.{Faults.sink_faults, Part.part_of};
+ghost use Rattle.ultra_inputs.specs.{Failure.{read_failures, write_failures}, Traffic.traffic};
+ghost use Rattle.ultra_commands.specs.{Outputs.{lines_asked, part_asked}, Stops.{failure_of_run, IsAll, RunFails, WroteRun}};
 
 use std::alloc::Global;
 use std::sync::Wait;

@@ -1,36 +1,20 @@
 -- The blocks after each half of a cycle are those that follow from the machine at its start.
 use Rattle.std.proofs.Common.{◌≡◌, ℕ, zero, suc, ◌+◌, ◌-◌, ◌^◌, ◌<◌, List, [], ◌∷◌, length, map, arith, refl, sym, ◌∙◌, ap, subst}
-use Rattle.std.proofs.lemmas.List.{ext_get_or, length-map}
-use Rattle.std.proofs.Math.Path.{fun_ext}
+use Rattle.std.proofs.{lemmas.List.{ext_get_or, length-map}, Math.Path.fun_ext}
 use Rattle.ultra_switch.specs.declared.Switch.{Switch}
 use Rattle.ultra_mem.specs.Serve.{ModuleState, empty_module}
 use Rattle.ultra_isa.specs.declared.Instr.{Instr}
-use Rattle.ultra_model.specs.Machine.{Settings}
-use Rattle.ultra_model.specs.Phases.{cycle, reply_phase, request_phase}
+use Rattle.ultra_model.specs.{Machine.Settings, Phases.{cycle, reply_phase, request_phase}}
 use Rattle.ultra_topology.specs.Numbers.{module_number}
-use Rattle.ultra_block_core.specs.declared.half.Half.{Half}
+use Rattle.ultra_block_core.specs.{declared.{half.Half.Half, rooms.Rooms.Rooms as BlockRooms}, BlockState.{BlockState, own_module, own_switch}, RepliesSent.without_events, Making.after_half}
 use Rattle.ultra_block_core.specs.declared.half.Half.TheVariants.{SendReplies, TakeReplies, Serve, SendRequests, TakeRequests, Execute}
-use Rattle.ultra_block_core.specs.declared.rooms.Rooms.{Rooms as BlockRooms}
-use Rattle.ultra_block_core.specs.BlockState.{BlockState, own_module, own_switch}
-use Rattle.ultra_block_core.specs.RepliesSent.{without_events}
-use Rattle.ultra_block_core.specs.Making.{after_half}
-use Rattle.ultra_partition.specs.declared.kind.MessageKind.{MessageKind}
-use Rattle.ultra_partition.specs.declared.kind.MessageKind.TheVariants.{Replies, Requests}
+use Rattle.ultra_partition.specs.{declared.kind.MessageKind.{MessageKind, TheVariants.{Replies, Requests}}, Halves.{AllCanMake, AreBlocks, all_after_half}, Moments.{AreRoomsOfAll, AreWhole, machine_in}}
 use Rattle.ultra_partition.specs.Cut.{block_at, frame_of, value_or, home, no_block, no_switch}
-use Rattle.ultra_partition.specs.Halves.{AllCanMake, AreBlocks, all_after_half}
-use Rattle.ultra_partition.specs.Moments.{AreRoomsOfAll, AreWhole, machine_in}
-use Rattle.ultra_partition.proofs.Columns.{changed_at}
-use Rattle.ultra_partition.proofs.Units.{few_units}
-use Rattle.ultra_partition.proofs.Halves.{all_by_own}
+use Rattle.ultra_partition.proofs.{Columns.changed_at, Units.few_units, Halves.all_by_own}
 use Rattle.ultra_partition.proofs.Whole.{Come, Left, Made, can_execute, come, first, middle, next, replies_left, replies_taken, requests_left, requests_taken, served}
-use Rattle.ultra_crew.specs.declared.task.BlockTask.{BlockTask}
-use Rattle.ultra_crew.specs.Words.{words_of_rooms}
-use Rattle.ultra_crew.specs.Exchanged.{AreExchanged, CanBeExchanged, exchanged}
-use Rattle.ultra_crew.specs.Start.{first_blocks, state_of}
+use Rattle.ultra_crew.specs.{declared.task.BlockTask.BlockTask, Words.words_of_rooms, Exchanged.{AreExchanged, CanBeExchanged, exchanged}, Start.{first_blocks, state_of}}
 use Rattle.ultra_crew.specs.ExpectedResults.{IsDue, blocks_after, results_in, teams_of, with_memory_served, with_replies_sent, with_replies_taken, with_requests_sent, with_requests_taken, with_steps_made}
-use Rattle.ultra_crew.proofs.Words.{are_rooms}
-use Rattle.ultra_crew.proofs.RoomsSame.{rooms_same, sending}
-use Rattle.ultra_crew.proofs.Started.{blocks_are}
+use Rattle.ultra_crew.proofs.{Words.are_rooms, RoomsSame.{rooms_same, sending}, Started.blocks_are}
 
 -- ---- messages leave by the rooms as words
 abbrev words : ℕ → List ℕ → List BlockState → BlockRooms

@@ -1,12 +1,10 @@
 -- Cycles that are made in order, and what workers are expected to give back.
 use Rattle.std.proofs.Common.{◌≡◌, ℕ, zero, suc, ◌+◌, List, refl, arith, ap}
 use Rattle.ultra_isa.specs.declared.Instr.{Instr}
-use Rattle.ultra_model.specs.Machine.{Machine, Settings}
-use Rattle.ultra_model.specs.Phases.{cycle, memory_phase, processor_phase, reply_phase, request_phase}
+use Rattle.ultra_model.specs.{Machine.{Machine, Settings}, Phases.{cycle, memory_phase, processor_phase, reply_phase, request_phase}}
 use Rattle.ultra_block_core.specs.declared.half.Half.{Half}
 use Rattle.ultra_block.specs.State.{BlocksState}
-use Rattle.ultra_crew.specs.declared.task.BlockTask.{BlockTask}
-use Rattle.ultra_crew.specs.ExpectedResults.{AreExpectedResults, expected_results_of, cycles_on, later, results_in}
+use Rattle.ultra_crew.specs.{declared.task.BlockTask.BlockTask, ExpectedResults.{AreExpectedResults, expected_results_of, cycles_on, later, results_in}}
 
 -- ---- machines
 pub cycles_one : (c : Settings) (program : List Instr) (m : Machine) → (cycle c program m).cycles ≡ m.cycles + 1

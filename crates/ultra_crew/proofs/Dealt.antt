@@ -1,17 +1,11 @@
 -- What the workers have when blocks are dealt to them.
 use Rattle.std.proofs.Common.{◌≡◌, ℕ, zero, suc, ◌+◌, ◌<◌, List, [], ◌∷◌, refl, subst, arith, length, get_or, map, All, Vec, Global}
-use Rattle.std.proofs.lemmas.List.{get_or_default}
-use Rattle.std.proofs.lemmas.List.Elements.{All-filter}
+use Rattle.std.proofs.lemmas.List.{get_or_default, Elements.All-filter}
 use Rattle.ultra_isa.specs.declared.Instr.{Instr}
-use Rattle.ultra_block_core.specs.BlockState.{BlockState}
-use Rattle.ultra_block_core.specs.declared.half.Half.{Half}
-use Rattle.ultra_block_core.specs.declared.rooms.Rooms.{Rooms}
-use Rattle.ultra_block_core.specs.Making.{CanMake}
-use Rattle.ultra_partition.specs.Cut.{no_block}
-use Rattle.ultra_partition.specs.Halves.{AllCanMake, all_after_half}
+use Rattle.ultra_block_core.specs.{BlockState.BlockState, declared.{half.Half.Half, rooms.Rooms.Rooms}, Making.CanMake}
+use Rattle.ultra_partition.specs.{Cut.no_block, Halves.{AllCanMake, all_after_half}}
 use Rattle.ultra_crew.specs.Tasks.{AreTeams, CanBeMade, is_of_worker, task_after_half, tasks_from, team}
-use Rattle.ultra_crew.specs.declared.task.BlockTask.{BlockTask}
-use Rattle.ultra_crew.specs.ExpectedResults.{teams_of}
+use Rattle.ultra_crew.specs.{declared.task.BlockTask.BlockTask, ExpectedResults.teams_of}
 
 module _ (h : Half) (rooms : Rooms) (program : List Instr) where
   -- the tasks of a team, when they are done, are its tasks of the blocks when they are

@@ -1,18 +1,11 @@
 -- What an exchange leaves is settled by what there was before it.
 use Rattle.std.proofs.Common.{◌≡◌, ℕ, ◌+◌, ◌*◌, ◌^◌, ◌<◌, ◌≤◌, List, None, length, get_or, refl, arith, sym, ◌∙◌, ap}
-use Rattle.std.proofs.lemmas.Bool.Decides.{nat_tests}
-use Rattle.std.proofs.lemmas.List.{ext_get_or}
+use Rattle.std.proofs.lemmas.{Bool.Decides.nat_tests, List.ext_get_or}
 use Rattle.ultra_model.specs.Places.{places}
 use Rattle.ultra_model.proofs.Each.{length-places, places_at}
-use Rattle.ultra_block_core.specs.Marks.{on_link}
-use Rattle.ultra_block_core.specs.BlockState.{BlockState}
-use Rattle.ultra_partition.specs.declared.kind.MessageKind.{MessageKind}
-use Rattle.ultra_partition.specs.declared.kind.MessageKind.TheVariants.{Replies, Requests}
-use Rattle.ultra_partition.specs.Cut.{block_at, no_block}
-use Rattle.ultra_partition.specs.Exchange.{AreThere, OnlyMove, on_each, link_table, with_link_table}
-use Rattle.ultra_partition.specs.Halves.{AreBlocks}
-use Rattle.ultra_partition.proofs.Moved.{links_of, nothing_away, reader, still_blocks}
-use Rattle.ultra_partition.proofs.Columns.{column_first}
+use Rattle.ultra_block_core.specs.{Marks.on_link, BlockState.BlockState}
+use Rattle.ultra_partition.specs.{declared.kind.MessageKind.{MessageKind, TheVariants.{Replies, Requests}}, Cut.{block_at, no_block}, Exchange.{AreThere, OnlyMove, on_each, link_table, with_link_table}, Halves.AreBlocks}
+use Rattle.ultra_partition.proofs.{Moved.{links_of, nothing_away, reader, still_blocks}, Columns.column_first}
 use Rattle.ultra_crew.specs.Exchanged.{AreExchanged, at_home, exchanged, unit_behind}
 
 -- a list that is known place by place

@@ -1,12 +1,10 @@
 -- The blocks of all teams, taken out in order, from the last to the first.
 use Rattle.std.proofs.Common.{◌≡◌, ◌≢◌, ℕ, ◌+◌, ◌%◌, ◌<◌, ◌≤◌, List, [], ◌∷◌, ◌++◌, refl, arith, ap, ◌∙◌, sym, length, length-append, get_or, set, take, drop, reverse, ⊎_elim, Vec, Global}
-use Rattle.std.proofs.lemmas.Bool.{cases_eq}
+use Rattle.std.proofs.lemmas.{Bool.cases_eq, List.Elements.filter-append}
 use Rattle.std.proofs.lemmas.List.{append-nil, drop_more, get_or-set_other, get_or-set_same, get_or_at, length-take-le, reverse-append, take_at, take_more}
-use Rattle.std.proofs.lemmas.List.Elements.{filter-append}
 use Rattle.ultra_block_core.specs.BlockState.{BlockState}
-use Rattle.ultra_crew.specs.Tasks.{is_of_worker, task, tasks_from, team}
+use Rattle.ultra_crew.specs.{Tasks.{is_of_worker, task, tasks_from, team}, declared.task.BlockTask.BlockTask}
 use Rattle.ultra_crew.proofs.TasksDealt.{in_team, not_in_team, tasks_more}
-use Rattle.ultra_crew.specs.declared.task.BlockTask.{BlockTask}
 
 -- two lists with one more element each are equal: so are the lists, and the elements
 same_length : (xs ys : List BlockTask) (x y : BlockTask) → xs ++ x ∷ [] ≡ ys ++ y ∷ [] → length xs ≡ length ys

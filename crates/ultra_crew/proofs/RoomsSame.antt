@@ -1,28 +1,17 @@
 -- The messages that leave depend on what the rooms say of a machine's units, and on nothing else.
-use Rattle.std.proofs.lemmas.Grind.{common_steps}
+use Rattle.std.proofs.lemmas.{Grind.common_steps, Bool.Decides.nat_tests}
 use Rattle.std.proofs.Common.{◌≡◌, ℕ, zero, suc, ◌-◌, ◌/◌, ◌^◌, ◌<◌, ◌≤◌, List, false, Option, Some, None, refl, sym, ◌∙◌, ap, arith, ◌==◌, not}
-use Rattle.std.proofs.lemmas.Bool.Decides.{nat_tests}
 use Rattle.ultra_route.proofs.Table.{back, sizes}
 use Rattle.ultra_route.specs.Route.{shuffled}
 use Rattle.ultra_msg.specs.declared.Request.{Request}
 use Rattle.ultra_isa.specs.declared.Instr.{Instr}
-use Rattle.ultra_topology.specs.Numbers.{reply_target, request_target, switch_count, switch_number}
-use Rattle.ultra_topology.specs.Set.{has_unit}
-use Rattle.ultra_topology.specs.Visits.{after_units}
+use Rattle.ultra_topology.specs.{Numbers.{reply_target, request_target, switch_count, switch_number}, Set.has_unit, Visits.after_units}
 use Rattle.ultra_topology.proofs.Standing.{unit_is}
-use Rattle.ultra_block_core.specs.declared.half.Half.{Half}
-use Rattle.ultra_block_core.specs.declared.half.Half.TheVariants.{SendReplies, SendRequests}
-use Rattle.ultra_block_core.specs.declared.rooms.Rooms.{Rooms}
-use Rattle.ultra_block_core.specs.BlockState.{BlockState}
-use Rattle.ultra_block_core.specs.RepliesSent.{without_events, has_reply_way, has_way_from_module, sends_replies}
-use Rattle.ultra_block_core.specs.RequestsSent.{has_request_way, has_room_at, has_way_from_element, sends_requests}
-use Rattle.ultra_block_core.specs.Making.{after_half}
+use Rattle.ultra_block_core.specs.{declared.{half.Half.{Half, TheVariants.{SendReplies, SendRequests}}, rooms.Rooms.Rooms}, BlockState.BlockState, RepliesSent.{without_events, has_reply_way, has_way_from_module, sends_replies}, RequestsSent.{has_request_way, has_room_at, has_way_from_element, sends_requests}, Making.after_half}
 use Rattle.ultra_block_core.proofs.Once.{all_keep}
 use Rattle.ultra_cycle_law.specs.Frame.{Frame}
 use Rattle.ultra_cycle_law.proofs.AtFrame.{number_small}
-use Rattle.ultra_partition.specs.declared.kind.MessageKind.{MessageKind}
-use Rattle.ultra_partition.specs.declared.kind.MessageKind.TheVariants.{Replies, Requests}
-use Rattle.ultra_partition.specs.Halves.{AreRooms}
+use Rattle.ultra_partition.specs.{declared.kind.MessageKind.{MessageKind, TheVariants.{Replies, Requests}}, Halves.AreRooms}
 
 -- the half in which messages of a kind leave
 abbrev pub sending : MessageKind → Half

@@ -1,22 +1,16 @@
 -- A machine between two cycles settles its blocks, but for what they list of the last one.
 use Rattle.std.proofs.Common.{◌≡◌, ℕ, ◌+◌, ◌*◌, ◌^◌, ◌<◌, List, Option, None, length, sym, ◌∙◌, ap, arith, map, replicate}
-use Rattle.std.proofs.lemmas.Bool.Decides.{nat_tests}
-use Rattle.std.proofs.lemmas.List.{ext_get_or, get_or-map, get_or-replicate, length-map, length-replicate}
+use Rattle.std.proofs.lemmas.{Bool.Decides.nat_tests, List.{ext_get_or, get_or-map, get_or-replicate, length-map, length-replicate}}
 use Rattle.ultra_isa.specs.declared.Instr.{Instr}
 use Rattle.ultra_model.specs.Machine.{Machine, Settings, module_at}
 use Rattle.ultra_topology.specs.Numbers.{switch_count, switch_number}
-use Rattle.ultra_block_core.specs.Units.{index_of, stage_of}
-use Rattle.ultra_block_core.specs.BlockState.{BlockState}
-use Rattle.ultra_block_core.specs.Marks.{on_link}
-use Rattle.ultra_block_core.specs.RepliesSent.{without_events}
+use Rattle.ultra_block_core.specs.{Units.{index_of, stage_of}, BlockState.BlockState, Marks.on_link, RepliesSent.without_events}
 use Rattle.ultra_block_core.proofs.Standing.{is_switch}
 use Rattle.ultra_cycle_law.specs.Frame.{Frame}
 use Rattle.ultra_cycle_law.proofs.AtFrame.{memory_module_is, element_is, lane_is, replies_is, size_is}
-use Rattle.ultra_partition.specs.Cut.{block_at, first, frame_of, no_block}
-use Rattle.ultra_partition.proofs.Columns.{column_none}
+use Rattle.ultra_partition.specs.{Cut.{block_at, first, frame_of, no_block}, Moments.{AreWhole, machine_in}}
+use Rattle.ultra_partition.proofs.{Columns.column_none, Units.{Sort, stands_at, unit}}
 use Rattle.ultra_partition.proofs.Units as units
-use Rattle.ultra_partition.proofs.Units.{Sort, stands_at, unit}
-use Rattle.ultra_partition.specs.Moments.{AreWhole, machine_in}
 use Rattle.ultra_block.proofs.Seen.{cycles_are}
 use Rattle.ultra_crew.proofs.Exchanged.{all_places}
 use Rattle.ultra_crew.specs.Start.{element_in, first_block, first_blocks, if_home, state_of, switch_in}

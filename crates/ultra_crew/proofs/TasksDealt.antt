@@ -1,11 +1,8 @@
 -- what a worker is dealt, block after block
 use Rattle.std.proofs.Common.{◌≡◌, ◌≢◌, ℕ, ◌+◌, ◌%◌, ◌<◌, List, [], ◌∷◌, ◌++◌, Bool, arith, ap, ◌∙◌, sym, length, get_or, set, ⊎_elim, Vec, Global, eq-eqb, cond}
-use Rattle.std.proofs.lemmas.Bool.{cases_eq, ne_eqb}
-use Rattle.std.proofs.lemmas.List.{get_or-set_same, get_or-set_other, append-nil}
-use Rattle.std.proofs.lemmas.List.Elements.{filter-append}
+use Rattle.std.proofs.lemmas.{Bool.{cases_eq, ne_eqb}, List.{get_or-set_same, get_or-set_other, append-nil, Elements.filter-append}}
 use Rattle.ultra_block_core.specs.BlockState.{BlockState}
-use Rattle.ultra_crew.specs.Tasks.{task, tasks_from, is_of_worker, team}
-use Rattle.ultra_crew.specs.declared.task.BlockTask.{BlockTask}
+use Rattle.ultra_crew.specs.{Tasks.{task, tasks_from, is_of_worker, team}, declared.task.BlockTask.BlockTask}
 
 pub tasks_more : (k : ℕ) (bs : List BlockState) (b : BlockState) → tasks_from k (bs ++ b ∷ []) ≡ tasks_from k bs ++ task (k + length bs) b ∷ []
 tasks_more k [] b = let e : k ≡ k + 0 = omega arith in ap (λ n. task n b ∷ []) e

@@ -1,11 +1,9 @@
 -- The words of a machine's rooms name the units that have none.
 use Rattle.std.proofs.Common.{◌≡◌, ℕ, zero, suc, ◌+◌, ◌*◌, ◌/◌, ◌^◌, ◌<◌, ◌≤◌, Bool, true, false, arith, not, is_some, Option}
-use Rattle.std.proofs.lemmas.Bool.Decides.{nat_tests}
-use Rattle.std.proofs.lemmas.Nat.Bits.{bit_at-suc, bit_at_lowest}
+use Rattle.std.proofs.lemmas.{Bool.Decides.nat_tests, Nat.Bits.{bit_at-suc, bit_at_lowest}}
 use Rattle.ultra_model.specs.Machine.{is_nothing}
 use Rattle.ultra_model.proofs.Each.{places_at}
-use Rattle.ultra_topology.specs.Numbers.{switch_count}
-use Rattle.ultra_topology.specs.Set.{has_bit, has_unit}
+use Rattle.ultra_topology.specs.{Numbers.switch_count, Set.{has_bit, has_unit}}
 use Rattle.ultra_cycle_law.specs.Frame.{Frame}
 use Rattle.ultra_partition.specs.Halves.{AreRooms}
 use Rattle.ultra_crew.specs.Words.{units_with, word_with_bits, words_of_rooms}

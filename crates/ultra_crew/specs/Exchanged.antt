@@ -4,11 +4,7 @@ use Rattle.ultra_route.specs.Route.{shuffled}
 use Rattle.ultra_model.specs.Places.{places}
 use Rattle.ultra_topology.specs.Numbers.{switch_number, reply_target, request_target}
 use Rattle.ultra_block_core.specs.BlockState.{BlockState}
-use Rattle.ultra_partition.specs.declared.kind.MessageKind.{MessageKind}
-use Rattle.ultra_partition.specs.declared.kind.MessageKind.TheVariants.{Replies, Requests}
-use Rattle.ultra_partition.specs.Cut.{block_at, home, first}
-use Rattle.ultra_partition.specs.Exchange.{AreSingle, AreThere, OnlyMove, on_each, with_link_table}
-use Rattle.ultra_partition.specs.Halves.{AreBlocks}
+use Rattle.ultra_partition.specs.{declared.kind.MessageKind.{MessageKind, TheVariants.{Replies, Requests}}, Cut.{block_at, home, first}, Exchange.{AreSingle, AreThere, OnlyMove, on_each, with_link_table}, Halves.AreBlocks}
 
 -- the unit of a machine of d stages to which a link leads
 abbrev pub unit_behind : MessageKind → ℕ → ℕ → ℕ

@@ -1,21 +1,12 @@
 -- what a machine's workers give back, cycle by cycle: it follows from the machine at the start
 use Rattle.std.specs.Prelude.{◌≡◌, ℕ, zero, suc, ◌+◌, ◌-◌, List}
 use Rattle.ultra_isa.specs.declared.Instr.{Instr}
-use Rattle.ultra_model.specs.Machine.{Settings, Machine}
-use Rattle.ultra_model.specs.Phases.{cycle}
-use Rattle.ultra_block_core.specs.BlockState.{BlockState}
-use Rattle.ultra_block_core.specs.declared.half.Half.{Half}
+use Rattle.ultra_model.specs.{Machine.{Settings, Machine}, Phases.cycle}
+use Rattle.ultra_block_core.specs.{BlockState.BlockState, declared.{half.Half.Half, rooms.Rooms.Rooms}}
 use Rattle.ultra_block_core.specs.declared.half.Half.TheVariants.{SendReplies, TakeReplies, Serve, SendRequests, TakeRequests, Execute}
-use Rattle.ultra_block_core.specs.declared.rooms.Rooms.{Rooms}
-use Rattle.ultra_partition.specs.declared.kind.MessageKind.TheVariants.{Replies, Requests}
-use Rattle.ultra_partition.specs.Cut.{frame_of}
-use Rattle.ultra_partition.specs.Halves.{AllCanMake, all_after_half}
+use Rattle.ultra_partition.specs.{declared.kind.MessageKind.TheVariants.{Replies, Requests}, Cut.frame_of, Halves.{AllCanMake, all_after_half}}
 use Rattle.ultra_block.specs.State.{BlocksState}
-use Rattle.ultra_crew.specs.Tasks.{tasks_from, team}
-use Rattle.ultra_crew.specs.declared.task.BlockTask.{BlockTask}
-use Rattle.ultra_crew.specs.Words.{words_of_rooms}
-use Rattle.ultra_crew.specs.Exchanged.{exchanged}
-use Rattle.ultra_crew.specs.Start.{first_blocks}
+use Rattle.ultra_crew.specs.{Tasks.{tasks_from, team}, declared.task.BlockTask.BlockTask, Words.words_of_rooms, Exchanged.exchanged, Start.first_blocks}
 
 -- ---- several cycles
 -- the machine n cycles later

@@ -1,18 +1,13 @@
 -- the blocks of a machine as a cycle begins, when nothing has happened in it yet
 use Rattle.std.specs.Prelude.{ℕ, ◌+◌, ◌*◌, ◌^◌, ◌==◌, true, false, List, Option, Some, None, length}
 use Rattle.ultra_isa.specs.declared.Instr.{Instr}
-use Rattle.ultra_switch.specs.declared.Switch.{Switch}
-use Rattle.ultra_switch.specs.Queues.{SizedLane, SizedReplies}
+use Rattle.ultra_switch.specs.{declared.Switch.Switch, Queues.{SizedLane, SizedReplies}}
 use Rattle.ultra_model.specs.Places.{places}
 use Rattle.ultra_model.specs.Machine.{Settings, Machine, lane_at, replies_at, module_at, element_at, site}
 use Rattle.ultra_topology.specs.Numbers.{switch_count, module_number, element_number}
-use Rattle.ultra_unit_steps.specs.Halves.{ports}
-use Rattle.ultra_unit_steps.specs.declared.elements.ProcessingElement.{ProcessingElement}
-use Rattle.ultra_block_core.specs.Units.{stage_of, index_of}
-use Rattle.ultra_block_core.specs.BlockState.{BlockState}
-use Rattle.ultra_block_core.specs.Building.{empty_block}
-use Rattle.ultra_partition.specs.Cut.{home}
-use Rattle.ultra_partition.specs.Moments.{machine_in}
+use Rattle.ultra_unit_steps.specs.{Halves.ports, declared.elements.ProcessingElement.ProcessingElement}
+use Rattle.ultra_block_core.specs.{Units.{stage_of, index_of}, BlockState.BlockState, Building.empty_block}
+use Rattle.ultra_partition.specs.{Cut.home, Moments.machine_in}
 use Rattle.ultra_block.specs.State.{BlocksState}
 
 -- the units of a machine, by their numbers

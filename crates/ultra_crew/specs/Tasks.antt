@@ -2,10 +2,7 @@
 use Rattle.std.specs.Prelude.{◌≡◌, ℕ, ◌+◌, ◌%◌, ◌==◌, ◌<◌, ◌≤◌, min, max, List, [], ◌∷◌, Bool, Vec, filter, length, slice_index_or, vec_capacity}
 use Rattle.std.specs.Global.{Global}
 use Rattle.ultra_isa.specs.declared.Instr.{Instr}
-use Rattle.ultra_block_core.specs.BlockState.{BlockState}
-use Rattle.ultra_block_core.specs.Making.{CanMake, after_half}
-use Rattle.ultra_block_core.specs.declared.half.Half.{Half}
-use Rattle.ultra_block_core.specs.declared.rooms.Rooms.{Rooms}
+use Rattle.ultra_block_core.specs.{BlockState.BlockState, Making.{CanMake, after_half}, declared.{half.Half.Half, rooms.Rooms.Rooms}}
 use Rattle.ultra_crew.specs.declared.task.BlockTask.{BlockTask}
 
 -- the tasks of all blocks, by the blocks' numbers from k on

@@ -2,8 +2,7 @@
 use Rattle.std.specs.Prelude.{ℕ, zero, suc, ◌+◌, ◌-◌, ◌*◌, Bool, true, false, not, nat_lt, is_some, List}
 use Rattle.ultra_model.specs.Places.{places}
 use Rattle.ultra_topology.specs.Numbers.{switch_count}
-use Rattle.ultra_unit_steps.specs.Halves.{ports}
-use Rattle.ultra_unit_steps.specs.Switches.{has_reply_room, has_request_room}
+use Rattle.ultra_unit_steps.specs.{Halves.ports, Switches.{has_reply_room, has_request_room}}
 use Rattle.ultra_block_core.specs.declared.rooms.Rooms.{Rooms}
 use Rattle.ultra_cycle_law.specs.Frame.{Frame}
 

@@ -2,8 +2,7 @@
 
 ghost use Rattle.std.specs.Prelude.{◌≡◌, ◌+◌, ◌-◌, ◌<◌, ◌≤◌, ◌^◌, IfOk, IsOk};
 ghost use Rattle.ultra_model.specs.Phases.{cycle as next_cycle};
-ghost use Rattle.ultra_crew.specs.Tasks.{busy_workers};
-ghost use Rattle.ultra_crew.specs.ExpectedResults.{AreExpectedResults, cycles_on};
+ghost use Rattle.ultra_crew.specs.{Tasks.busy_workers, ExpectedResults.{AreExpectedResults, cycles_on}};
 
 use crate::expected_results::ExpectedResults;
 use crate::fault::CrewFault;

@@ -2,14 +2,9 @@
 
 ghost use Rattle.std.specs.Prelude.{◌≡◌, ℕ, ◌+◌, ◌-◌, ◌<◌, ◌≤◌, ◌^◌, All, IfOk, List, IfErr, OnOk, [], length, map, slice_index_or, vec_capacity};
 ghost use Rattle.ultra_model.specs.Phases.{cycle as next_cycle};
-ghost use Rattle.ultra_block_core.specs.declared.half.Half.{Half};
-ghost use Rattle.ultra_block_core.specs.BlockState.{BlockState};
-ghost use Rattle.ultra_partition.specs.Halves.{all_after_half};
-ghost use Rattle.ultra_partition.specs.Moments.{AreWhole, machine_in};
-ghost use Rattle.ultra_crew.specs.Tasks.{AreEmptyTeams, AreTeams, CanBeMade, task_after_half};
-ghost use Rattle.ultra_crew.specs.Start.{state_of};
-ghost use Rattle.ultra_crew.specs.ExpectedResults.{AreExpectedResults, IsDue, cycles_on, results_in};
-ghost use Rattle.ultra_crew.specs.declared.fault.CrewFault.TheVariants.{NoThread};
+ghost use Rattle.ultra_block_core.specs.{declared.half.Half.Half, BlockState.BlockState};
+ghost use Rattle.ultra_partition.specs.{Halves.all_after_half, Moments.{AreWhole, machine_in}};
+ghost use Rattle.ultra_crew.specs.{Tasks.{AreEmptyTeams, AreTeams, CanBeMade, task_after_half}, Start.state_of, ExpectedResults.{AreExpectedResults, IsDue, cycles_on, results_in}, declared.fault.CrewFault.TheVariants.NoThread};
 
 use crate::expected_results::ExpectedResults;
 use crate::fault::CrewFault;

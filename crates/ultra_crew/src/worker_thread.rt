@@ -1,8 +1,7 @@
 //! A worker's thread, with the channels to it and back.
 
 ghost use Rattle.std.specs.Prelude.{◌≡◌, All, IfErr, IfOk, map};
-ghost use Rattle.ultra_crew.specs.Tasks.{CanBeMade, task_after_half};
-ghost use Rattle.ultra_crew.specs.declared.fault.CrewFault.TheVariants.{NoThread};
+ghost use Rattle.ultra_crew.specs.{Tasks.{CanBeMade, task_after_half}, declared.fault.CrewFault.TheVariants.NoThread};
 
 use crate::assignment::{Assignment, FinishedAssignment};
 use crate::expected_results::ExpectedResults;

@@ -1,5 +1,5 @@
 -- The words and lemmas of the crates below and of this one that proofs here use. Those of std's `Common` come from there.
-pub use Rattle.std.proofs.lemmas.{Bool.Decides.nat_tests, Nat.div-mul-add, Nat.mod-mul-add, Nat.mul-add-lt, Nat.pow_pos}
+pub use Rattle.std.proofs.lemmas.{Bool.Decides.nat_tests, Nat.{div-mul-add, mod-mul-add, mul-add-lt, pow_pos}}
 pub use Rattle.ultra_unit_steps.specs.Halves.{both_coming, first_of, going_by, lane_after_reply, lane_with, lane_without, second_of}
 pub use Rattle.ultra_mem.specs.Serve.{serve, served}
 pub use Rattle.ultra_model.specs.Machine.{Element, module_at, element_at, lane_at, last_stage, replies_at, request_exit}

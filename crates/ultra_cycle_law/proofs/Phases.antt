@@ -1,13 +1,13 @@
 -- the halves of a frame make up the phases of the definition, and so a cycle
 use Rattle.std.proofs.Common.{◌≡◌, ◌≢◌, ℕ, ◌+◌, ◌*◌, ◌-◌, ◌/◌, ◌%◌, ◌^◌, ◌<◌, List, [], refl, arith, ap, ◌∙◌, sym, ◌++◌, slice_get, not, ne_eqb, eqb-true}
 use Rattle.ultra_cycle_law.proofs.Common.{ports, at_switch, link_number, on_links, nat_tests, div-mul-add, mod-mul-add, mul-add-lt, pow_pos, Back, back, present, joined, size, last_stage, request_exit, IsSound, switch_number, reply_source, switch_count, request_source, where_room, going_by, lane_after_reply, lane_without, lane_with, both_coming, first_of, second_of, Frame, AreClosedToReplies, AreClosedToRequests, AreAlike, at_port, Request, Ports, Switch, replies_from, reply_from, reply_to, sends_replies, takes_replies, requests_from, request_from, sends_requests, request_to, takes_requests, serves, executes, Event, Stop, Instr, sized_lane, sized_replies, Fits, IsFrameOf, Settings, Machine, serve, served as served_one}
-use Rattle.ultra_topology.specs.{Set.has_unit, Units.stage_of, Units.index_of, Ways.has_reply_way, Ways.has_room_at, Ways.has_request_way}
+use Rattle.ultra_topology.specs.{Set.has_unit, Units.{stage_of, index_of}, Ways.{has_reply_way, has_room_at, has_request_way}}
 use Rattle.ultra_topology.proofs.Standing.{is_switch}
 use Rattle.ultra_route.specs.Route.{shuffled, unshuffled}
 use Rattle.ultra_model.specs.Phases.{arrivals as arrivals_at, combinations as combinations_in, delivery, replies_made, arriving_reply, leaving_reply, replies_at_exit, next_replies, lane_after_split, delivered, reply_phase, has_reply_room, has_request_room, arriving_request, entering, leaving_request, lane_after_leaving, next_lane, request_phase, serving, memory_phase, processor_phase, cycle}
-use Rattle.ultra_model.proofs.{Capacities.after_leaving_shorter, Interfaces.can_deliver, Neighbours.next_is, Neighbours.itself, Routes.entering_well, Sound.sound-reply_phase, Sound.sound-memory_phase, Sound.sound-request_phase, Sound.sound-processor_phase}
+use Rattle.ultra_model.proofs.{Capacities.after_leaving_shorter, Interfaces.can_deliver, Neighbours.{next_is, itself}, Routes.entering_well, Sound.{sound-reply_phase, sound-memory_phase, sound-request_phase, sound-processor_phase}}
 use Rattle.ultra_unit_steps.specs.Switches.{CanTakeReplies as SwitchCanTakeReplies, CanTakeRequests as SwitchCanTakeRequests, after_replies, first_request, after_requests, combinations_of}
-use Rattle.ultra_cycle_law.specs.{Course.delivery_events, Course.combinations, Course.servings, Course.issues, Course.stops, Whole.whole, Law.CanTakeReplies, Law.CanTakeRequests, Law.CanExecute, Law.CycleLaw}
+use Rattle.ultra_cycle_law.specs.{Course.{delivery_events, combinations, servings, issues, stops}, Whole.whole, Law.{CanTakeReplies, CanTakeRequests, CanExecute, CycleLaw}}
 use Rattle.ultra_cycle_law.proofs.AtFrame.{at_number, number_small, same_places, whole_is, whole_alike, lane_is, replies_is, memory_module_is, element_is, size_is, regroup}
 use Rattle.ultra_mem.proofs.Cells.{length-serve}
 

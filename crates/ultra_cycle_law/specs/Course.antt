@@ -5,9 +5,7 @@ use Rattle.ultra_mem.specs.Serve.{serve, served}
 pub use Rattle.ultra_isa.specs.declared.Instr.{Instr}
 pub use Rattle.ultra_model.specs.declared.Stop.{Stop}
 use Rattle.ultra_cycle_law.specs.Prelude.{places, present, joined, delivery, without_reply, serving, issue_event, stop_of, switch_count, map_ports, where_room, replies_leaving, without_replies, after_replies, request_heads, requests_leaving, without_requests, after_requests, combinations_of, element_of, delivered_to, element_without, step_at, executed}
-use Rattle.ultra_topology.specs.Units.{stage_of, index_of}
-use Rattle.ultra_topology.specs.Marks.{reply_links, request_links, delivery_link, memory_link}
-use Rattle.ultra_topology.specs.Ways.{reply_ways, request_ways, has_way_from_module, has_way_from_element}
+use Rattle.ultra_topology.specs.{Units.{stage_of, index_of}, Marks.{reply_links, request_links, delivery_link, memory_link}, Ways.{reply_ways, request_ways, has_way_from_module, has_way_from_element}}
 use Rattle.ultra_unit_steps.specs.Modules.{module_with}
 use Rattle.ultra_cycle_law.specs.Frame.{Frame, at_port, Request, ReplyMessage, Ports, ProcessingElement}
 

@@ -1,9 +1,7 @@
 -- a whole machine in the course of a cycle
 use Rattle.std.specs.Prelude.{◌≡◌, ℕ, zero, suc, ◌+◌, ◌*◌, ◌^◌, ◌<◌, not, List, Option, None}
-pub use Rattle.ultra_msg.specs.declared.Request.{Request}
-pub use Rattle.ultra_msg.specs.declared.ReplyMessage.{ReplyMessage}
-pub use Rattle.ultra_switch.specs.declared.Ports.{Ports}
-pub use Rattle.ultra_switch.specs.declared.Switch.{Switch}
+pub use Rattle.ultra_msg.specs.declared.{Request.Request, ReplyMessage.ReplyMessage}
+pub use Rattle.ultra_switch.specs.declared.{Ports.Ports, Switch.Switch}
 pub use Rattle.ultra_mem.specs.Serve.{ModuleState}
 pub use Rattle.ultra_unit_steps.specs.declared.elements.ProcessingElement.{ProcessingElement}
 use Rattle.ultra_cycle_law.specs.Prelude.{has_reply_room, has_request_room, is_nothing, switch_count, module_number}

@@ -1,11 +1,10 @@
 -- a cycle in six halves is one cycle of the definition
 use Rattle.std.specs.Prelude.{ℕ, ◌+◌, ◌-◌, ◌^◌, ◌<◌, List, ◌++◌, ◌≡◌, ◌/◌, length, None}
-use Rattle.ultra_cycle_law.specs.Prelude.{CanDeliver, cycle, switch_count}
+use Rattle.ultra_cycle_law.specs.{Prelude.{CanDeliver, cycle, switch_count}, Course.{Event, Instr, Stop}, Whole.{IsFrameOf, Settings, Machine}}
 use Rattle.std.specs.Option.{ForSome}
 use Rattle.ultra_unit_steps.specs.Switches as switch
 use Rattle.ultra_cycle_law.specs.Frame.{Frame, AreClosedToReplies, AreClosedToRequests, Ports, AreAlike, IsClear}
 use Rattle.ultra_cycle_law.specs.Course as half
-use Rattle.ultra_cycle_law.specs.{Course.Event, Course.Instr, Course.Stop, Whole.IsFrameOf, Whole.Settings, Whole.Machine}
 
 -- ---- the conditions of the halves that take messages, and of the one in which processing elements
 -- make a step

@@ -4,7 +4,7 @@ use Rattle.ultra_cycle_law.specs.Prelude.{places, table, size, site, switch_numb
 use Rattle.ultra_switch.specs.Queues.{SizedLane, SizedReplies, empty_requests, empty_replies}
 pub use Rattle.ultra_model.specs.Machine.{Settings, Machine}
 use Rattle.ultra_model.specs.{Ranges.AreInRange, Sound.IsSound}
-use Rattle.ultra_cycle_law.specs.{Frame.Frame, Frame.at_port, Frame.Switch, Course.Event, Course.Stop}
+use Rattle.ultra_cycle_law.specs.{Frame.{Frame, at_port, Switch}, Course.{Event, Stop}}
 
 module _ (c : Settings) (f : Frame) where
   -- the queues at position x of stage s

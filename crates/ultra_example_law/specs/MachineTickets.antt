@@ -1,8 +1,6 @@
 -- a counter that hands out tickets, on the machine
 use Rattle.std.specs.Prelude.{◌≡◌, ◌≢◌, ℕ, ◌<◌, ◌≤◌, [], slice_index}
-use Rattle.ultra_model.specs.Machine.{Settings, Machine, size, element_at}
-use Rattle.ultra_model.specs.Phases.{after}
-use Rattle.ultra_model.specs.Ranges.{AreInRange}
+use Rattle.ultra_model.specs.{Machine.{Settings, Machine, size, element_at}, Phases.after, Ranges.AreInRange}
 use Rattle.ultra_para.specs.Law.{WaitsForNothing}
 use Rattle.ultra_colib.specs.Tickets.{tickets}
 

@@ -2,14 +2,11 @@
 use Rattle.std.proofs.Common.{◌≡◌, ◌∙◌, ℕ, zero, suc, ◌+◌, ◌<◌, List, [], ◌∷◌, ◌++◌, take, drop, get_or, length, ap, sym, refl, subst, append_assoc, append-nil}
 use Rattle.std.proofs.lemmas.List.{take_more, drop_more}
 use Rattle.std.specs.Prelude.{Result, Ok, Err, IfErr, OnOk, OnErr}
-use Rattle.ultra_msg.specs.Bytes.{IsPrefix, TakesPrefix}
+use Rattle.ultra_msg.specs.{Bytes.{IsPrefix, TakesPrefix}, declared.Event.Event}
 use Rattle.ultra_msg.proofs.Prefixes.{prefix_behind, takes_all, takes_behind, takes_longer}
-use Rattle.ultra_msg.specs.declared.Event.{Event}
-use Rattle.ultra_serial_law.specs.Tree.{Kept, trees_after}
-use Rattle.ultra_serial_law.specs.Explicable.{AreAbsorbable, IsAbsorbable}
+use Rattle.ultra_serial_law.specs.{Tree.{Kept, trees_after}, Explicable.{AreAbsorbable, IsAbsorbable}}
 use Rattle.ultra_tree.specs.Absorb.{ExplainerState}
-use Rattle.ultra_inputs.specs.declared.failure.Failure.{Failure}
-use Rattle.ultra_inputs.specs.declared.failure.Failure.TheVariants.{HeapFull}
+use Rattle.ultra_inputs.specs.declared.failure.Failure.{Failure, TheVariants.HeapFull}
 use Rattle.ultra_explain_command.specs.Explanation.{tree_event_line, event_lines, trees_after_all, StopsAtCombination}
 
 -- ---- what was put, whether all of it or not

@@ -1,14 +1,9 @@
 -- settings that are accepted are in their ranges
 use Rattle.std.proofs.Common.{◌≡◌, ℕ, ◌<◌, ◌≤◌, List, [], ◌∷◌, Bool, true, false, not, Option, Some, None, refl, cond}
-use Rattle.std.specs.Prelude.{ℤ, pos, negsuc, Vec, find}
-use Rattle.std.specs.declared.alloc.Global.{Global}
-use Rattle.std.specs.List.{AllByRecursion, list_all}
-use Rattle.std.proofs.lemmas.Bool.{leb-true, ltb-true}
-use Rattle.std.proofs.lemmas.List.Elements.{All-from_recursion}
-use Rattle.ultra_model.specs.Ranges.{AreInRange}
+use Rattle.std.specs.{Prelude.{ℤ, pos, negsuc, Vec, find}, declared.alloc.Global.Global, List.{AllByRecursion, list_all}}
+use Rattle.std.proofs.lemmas.{Bool.{leb-true, ltb-true}, List.Elements.All-from_recursion}
+use Rattle.ultra_model.specs.{Ranges.AreInRange, declared.config.{RawSettings.RawSettings, Field.Field}}
 use Rattle.ultra_model.specs.Accepted.{number_or_zero, is_within, is_cell, cells_of, are_different, are_initial_given, initial_of, all_cells_of, is_good, first_bad, settings_of}
-use Rattle.ultra_model.specs.declared.config.RawSettings.{RawSettings}
-use Rattle.ultra_model.specs.declared.config.Field.{Field}
 use Rattle.ultra_model.specs.declared.config.Field.TheVariants.{Stages, RequestPlaces, ReplyPlaces, WaitPlaces, MostOpen, Cells, Cycles, Initial}
 use Rattle.ultra_model.proofs.Counting.{both_true}
 

@@ -1,12 +1,8 @@
 -- nothing is served after the last cycle of the trace
 use Rattle.std.proofs.Common.{ℕ, zero, suc, ◌≡◌, ◌+◌, ◌<◌, ◌⊎◌, inl, inr, Bool, true, false, Some, cond, refl, sym, ap, arith, ⊎_elim}
-use Rattle.std.specs.Prelude.{List}
-use Rattle.std.specs.List.{find, range_with_len}
-use Rattle.std.specs.Option.{unwrap_or}
+use Rattle.std.specs.{Prelude.List, List.{find, range_with_len}, Option.unwrap_or}
 use Rattle.ultra_isa.specs.declared.Instr.{Instr}
-use Rattle.ultra_model.specs.Machine.{Settings, is_quiet}
-use Rattle.ultra_model.specs.Phases.{after}
-use Rattle.ultra_model.specs.Trace.{cycle_count}
+use Rattle.ultra_model.specs.{Machine.{Settings, is_quiet}, Phases.after, Trace.cycle_count}
 use Rattle.ultra_serial_law.specs.SerialList.{serial_list}
 use Rattle.ultra_serial.proofs.Advancing.{quiet_list}
 use Rattle.ultra_explain_command.specs.Explanation.{lines_of_first}

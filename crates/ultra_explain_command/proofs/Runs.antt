@@ -1,19 +1,14 @@
 -- the lines of a run, cycle by cycle
 use Rattle.std.proofs.Common.{◌≡◌, ◌∙◌, ℕ, zero, suc, ◌+◌, ◌<◌, ◌≤◌, List, [], ◌∷◌, ◌++◌, true, false, refl, sym, ap, subst, arith, add-one, append_assoc, append-nil, ⊎_elim, length}
 use Rattle.std.proofs.lemmas.Bool.{cases_eq}
-use Rattle.ultra_msg.specs.Bytes.{AreTakenOrWait, IsPrefix, TakesPrefix}
+use Rattle.ultra_msg.specs.{Bytes.{AreTakenOrWait, IsPrefix, TakesPrefix}, declared.Event.Event}
 use Rattle.ultra_msg.proofs.Prefixes.{both_written, prefix_behind, rest_passed_on, takes_later, takes_longer}
-use Rattle.ultra_msg.specs.declared.Event.{Event}
 use Rattle.ultra_isa.specs.declared.Instr.{Instr}
-use Rattle.ultra_model.specs.Machine.{Settings, fresh_element, size, start, is_quiet}
-use Rattle.ultra_model.specs.Phases.{processor_phase, cycle, after}
+use Rattle.ultra_model.specs.{Machine.{Settings, fresh_element, size, start, is_quiet}, Phases.{processor_phase, cycle, after}}
 use Rattle.ultra_model.proofs.Each.{length-places}
-use Rattle.ultra_serial_law.specs.Tree.{Kept, trees_after}
-use Rattle.ultra_serial_law.specs.SerialList.{History, history}
+use Rattle.ultra_serial_law.specs.{Tree.{Kept, trees_after}, SerialList.{History, history}, Explicable.{AreAbsorbable, AreExplicable}}
 use Rattle.ultra_serial.proofs.Cycles.{history_next}
-use Rattle.ultra_serial_law.proofs.Mentions.{trees_noted, noted_trees}
-use Rattle.ultra_serial_law.specs.Explicable.{AreAbsorbable, AreExplicable}
-use Rattle.ultra_serial_law.proofs.Rest.{IsAtRest, rest_if_quiet, rest_cycle, nothing_happens}
+use Rattle.ultra_serial_law.proofs.{Mentions.{trees_noted, noted_trees}, Rest.{IsAtRest, rest_if_quiet, rest_cycle, nothing_happens}}
 use Rattle.ultra_tree.specs.Absorb.{ExplainerState}
 use Rattle.ultra_explain_command.specs.Explanation.{event_lines, trees_after_all, lines_of_first, StopsAtCombination, StopsFull}
 

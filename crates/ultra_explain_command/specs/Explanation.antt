@@ -1,19 +1,11 @@
 -- the lines of the memory acts of a run, each with its combining tree; this project's profile
 use Rattle.std.specs.Prelude.{◌≡◌, ◌⊎◌, ◌+◌, ◌<◌, ℕ, zero, suc, List, [], ◌∷◌, ◌++◌, take, slice_get, Option, Some, None, codes, decimal}
-use Rattle.ultra_msg.specs.declared.Event.{Event}
-use Rattle.ultra_msg.specs.declared.Event.TheVariants.{Delivered, Served, Combined, Issued}
+use Rattle.ultra_msg.specs.declared.Event.{Event, TheVariants.{Delivered, Served, Combined, Issued}}
 use Rattle.ultra_isa.specs.declared.Instr.{Instr}
-use Rattle.ultra_model.specs.Machine.{Settings}
-use Rattle.ultra_model.specs.Phases.{after}
-use Rattle.ultra_model.specs.Trace.{cycle_count}
-use Rattle.ultra_inputs.specs.declared.failure.Failure.{Failure}
-use Rattle.ultra_inputs.specs.declared.failure.Failure.TheVariants.{HeapTooSmall, HeapFull}
-use Rattle.ultra_inputs.specs.Inputs.{Gave}
-use Rattle.ultra_inputs.specs.Traffic.{IsStopped, Traffic}
-use Rattle.ultra_serial_law.specs.Tree.{Tree, Kept, tree_of, trees_after}
-use Rattle.ultra_serial_law.specs.SerialList.{history}
-use Rattle.ultra_tree.specs.Absorb.{IsCombination}
-use Rattle.ultra_tree.specs.Text.{tree_text}
+use Rattle.ultra_model.specs.{Machine.Settings, Phases.after, Trace.cycle_count}
+use Rattle.ultra_inputs.specs.{declared.failure.Failure.{Failure, TheVariants.{HeapTooSmall, HeapFull}}, Inputs.Gave, Traffic.{IsStopped, Traffic}}
+use Rattle.ultra_serial_law.specs.{Tree.{Tree, Kept, tree_of, trees_after}, SerialList.history}
+use Rattle.ultra_tree.specs.{Absorb.IsCombination, Text.tree_text}
 
 -- the line of an act, `cycle C module M cell A TREE`
 abbrev pub tree_line : ℕ → ℕ → ℕ → Tree → List ℕ

@@ -2,10 +2,8 @@
 
 ghost use Rattle.std.specs.Prelude.{◌≡◌, ◌⊎◌, ◌++◌, false, true, codes, decimal, IfErr, OnErr, OnOk};
 ghost use Rattle.ultra_msg.specs.Bytes.{TakesPrefix, WritesOrFails};
-ghost use Rattle.ultra_serial_law.specs.Tree.{trees_after};
-ghost use Rattle.ultra_serial_law.specs.Explicable.{AreAbsorbable, IsAbsorbable};
-ghost use Rattle.ultra_tree.specs.Absorb.{IsCombination};
-ghost use Rattle.ultra_tree.specs.Seen.{seen};
+ghost use Rattle.ultra_serial_law.specs.{Tree.trees_after, Explicable.{AreAbsorbable, IsAbsorbable}};
+ghost use Rattle.ultra_tree.specs.{Absorb.IsCombination, Seen.seen};
 ghost use Rattle.ultra_inputs.specs.declared.failure.Failure.TheVariants.{HeapFull, NoMemory};
 ghost use Rattle.ultra_explain_command.specs.Explanation.{tree_line, tree_event_line, event_lines, trees_after_all, StopsAtCombination};
 

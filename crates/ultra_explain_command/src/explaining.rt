@@ -1,16 +1,12 @@
 //! A run, followed from its start to its end.
 
 ghost use Rattle.std.specs.Prelude.{◌≡◌, ◌+◌, ◌++◌, false, IfErr, IfOk, OnErr, OnOk};
-ghost use Rattle.linked_list_allocator.specs.Heap.{heap_size};
-ghost use Rattle.linked_list_allocator.specs.Region.{block_size};
+ghost use Rattle.linked_list_allocator.specs.{Heap.heap_size, Region.block_size};
 ghost use Rattle.ultra_msg.specs.Bytes.{AreTakenOrWait, TakesPrefix};
-ghost use Rattle.ultra_model.specs.Machine.{size, start};
-ghost use Rattle.ultra_model.specs.Ranges.{AreInRange};
+ghost use Rattle.ultra_model.specs.{Machine.{size, start}, Ranges.AreInRange};
 ghost use Rattle.ultra_serial_law.specs.Explicable.{AreAbsorbable};
 ghost use Rattle.ultra_tree.specs.Absorb.{nothing_absorbed};
-ghost use Rattle.ultra_inputs.specs.declared.failure.Failure.TheVariants.{HeapTooSmall, HeapFull};
-ghost use Rattle.ultra_inputs.specs.Failure.{read_failures, write_failures};
-ghost use Rattle.ultra_inputs.specs.Traffic.{traffic, WroteText, TextFails};
+ghost use Rattle.ultra_inputs.specs.{declared.failure.Failure.TheVariants.{HeapTooSmall, HeapFull}, Failure.{read_failures, write_failures}, Traffic.{traffic, WroteText, TextFails}};
 ghost use Rattle.ultra_explain_command.specs.Explanation.{event_lines, trees_after_all, explanation_of, AreLinesCut, EndsFull, IsCutShort, StopsAtCombination, StopsFull};
 
 use crate::acts::put_lines;

@@ -1,18 +1,12 @@
 -- the numbers of the units of a kind, by the bits of a word
 use Rattle.std.proofs.Common.{ℕ, zero, suc, ◌≡◌, ◌+◌, ◌-◌, ◌*◌, ◌%◌, ◌^◌, ◌<◌, ◌≤◌, List, [], ◌∷◌, ◌++◌, Bool, true, false, ◌&&◌, refl, sym, ◌∙◌, ap, ◌⊎◌, inl, inr, append-nil, arith, w64, bit_and, nat_lt}
-use Rattle.std.specs.Prelude.{◌==◌}
-use Rattle.std.specs.List.{range_with_len, filter}
-use Rattle.std.proofs.lemmas.Bool.{cases_lt}
-use Rattle.std.proofs.lemmas.Bool.Decides.{nat_tests}
-use Rattle.std.proofs.lemmas.List.Elements.{filter-append}
+use Rattle.std.specs.{Prelude.◌==◌, List.{range_with_len, filter}}
+use Rattle.std.proofs.{lemmas.{Bool.{cases_lt, Decides.nat_tests}, List.Elements.filter-append}, Math.Pow.pow-lt}
 use Rattle.std.proofs.lemmas.Nat.Bits.{bit_at-lt, bit_at-zero, bit_at-trailing_zeros, bit_at_and, bit_at_ones, bit_at_ones_above}
-use Rattle.std.proofs.Math.Pow.{pow-lt}
 use Rattle.ultra_topology.specs.Set.{AreBits, HasNoneFrom, IsFirstFrom, has_bit, has_unit, word_end}
 use Rattle.ultra_topology.proofs.Set.{behind, bits_behind, first}
-use Rattle.ultra_holders.specs.Holders.{holders_left, numbers_from, numbers_of_bits}
-use Rattle.ultra_holders.specs.declared.holders.Holders.{Holders}
-use Rattle.ultra_holders.proofs.Skipped.{range_parts}
-use Rattle.ultra_holders.proofs.Skipped.{first_passes, none_passes}
+use Rattle.ultra_holders.specs.{Holders.{holders_left, numbers_from, numbers_of_bits}, declared.holders.Holders.Holders}
+use Rattle.ultra_holders.proofs.Skipped.{range_parts, first_passes, none_passes}
 
 -- ---- numbers that pass a test
 same_pass : (p q : ℕ → Bool) (a n : ℕ) → ((k : ℕ) → a ≤ k → k < a + n → p k ≡ q k) → filter p (range_with_len a n) ≡ filter q (range_with_len a n)

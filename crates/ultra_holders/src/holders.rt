@@ -2,10 +2,8 @@
 
 ghost use Rattle.std.specs.Prelude.{◌≡◌, ◌+◌, ◌-◌, ◌^◌, ◌<◌, ◌≤◌, [], ◌∷◌, true, false, nat_lt, ◌&&◌};
 ghost use Rattle.std.specs.Iterator.{YieldsFirst, item_count};
-ghost use Rattle.ultra_topology.specs.Numbers.{IsSmall, switch_count as count_of_switches, module_number as number_of_module, element_number as number_of_element, switch_number as number_of_switch};
-ghost use Rattle.ultra_topology.specs.Set.{AreBits, has_unit, word_end};
+ghost use Rattle.ultra_topology.specs.{Numbers.{IsSmall, switch_count as count_of_switches, module_number as number_of_module, element_number as number_of_element, switch_number as number_of_switch}, Set.{AreBits, has_unit, word_end}, declared.TheConstants.MOST_UNITS};
 ghost use Rattle.ultra_holders.specs.Holders.{holders_left, numbers_in};
-ghost use Rattle.ultra_topology.specs.declared.TheConstants.{MOST_UNITS};
 
 use ultra_route::Net;
 use ultra_topology::{UnitSet, element_number, module_number, switch_count, switch_number};

@@ -1,21 +1,14 @@
 -- the request phase behind the hot requests: requests for other cells move on, and what the hot requests have left stays
 use Rattle.std.proofs.Common.{◌≡◌, ◌≢◌, ℕ, suc, ◌+◌, ◌-◌, ◌*◌, ◌/◌, ◌%◌, ◌<◌, ◌≤◌, List, [], ◌∷◌, ◌++◌, Bool, true, false, arith, subst, ⊎_elim}
 use Rattle.std.specs.Prelude.{Option, Some, None, IfSome, slice_get, ◌==◌}
-use Rattle.std.proofs.lemmas.Bool.{cases_lt}
-use Rattle.std.proofs.lemmas.Bool.Decides.{nat_tests}
+use Rattle.std.proofs.lemmas.Bool.{cases_lt, Decides.nat_tests}
 use Rattle.ultra_msg.specs.declared.Request.{Request}
 use Rattle.ultra_route.specs.Route.{shuffled, unshuffled}
-use Rattle.ultra_switch.specs.declared.QueueEntry.{QueueEntry}
-use Rattle.ultra_switch.specs.declared.WaitRecord.{WaitRecord}
-use Rattle.ultra_switch.specs.Queues.{request_of}
-use Rattle.ultra_model.specs.Places.{after_leaving}
+use Rattle.ultra_switch.specs.{declared.{QueueEntry.QueueEntry, WaitRecord.WaitRecord}, Queues.request_of}
+use Rattle.ultra_model.specs.{Places.after_leaving, Ranges.AreInRange}
 use Rattle.ultra_model.specs.Machine.{Settings, Machine, Element, size, lane_at, element_at, request_exit}
 use Rattle.ultra_model.specs.Phases.{has_request_room, request_before, admitted, arriving_request, requests_by, arrivals_by, arrivals, leaving_request, lane_after_leaving, request_phase, without_pending}
-use Rattle.ultra_model.specs.Ranges.{AreInRange}
-use Rattle.ultra_model.proofs.Each.{each-append, each-after_leaving, each-first, if_tested}
-use Rattle.ultra_model.proofs.OnRoute.{some-request}
-use Rattle.ultra_model.proofs.Routes.{turns_back, two_ports}
-use Rattle.ultra_model.proofs.AtPlaces.{lane-request_phase, element-request_phase}
+use Rattle.ultra_model.proofs.{Each.{each-append, each-after_leaving, each-first, if_tested}, OnRoute.some-request, Routes.{turns_back, two_ports}, AtPlaces.{lane-request_phase, element-request_phase}}
 use Rattle.ultra_hot_spot.proofs.Others.{AreOthers, AreOtherEntries, Keeps, keeps_alone, IsAfterOthers, after_others, IsAway}
 use Rattle.ultra_hot_spot.proofs.Stages.{IsClear, HasLeft}
 

@@ -1,26 +1,17 @@
 -- while the hot answers are on their way, there is no other request for the cell anywhere
 use Rattle.std.proofs.Common.{◌≡◌, ◌≢◌, ℕ, ◌<◌, ◌≤◌, List, [], refl, arith}
 use Rattle.std.specs.Prelude.{Option, Some, None, IfSome, slice_get}
-use Rattle.ultra_msg.specs.declared.Request.{Request}
-use Rattle.ultra_msg.specs.declared.ReplyMessage.{ReplyMessage}
+use Rattle.ultra_msg.specs.declared.{Request.Request, ReplyMessage.ReplyMessage}
 use Rattle.ultra_route.specs.Route.{shuffled}
-use Rattle.ultra_switch.specs.declared.QueueEntry.{QueueEntry}
-use Rattle.ultra_switch.specs.Queues.{request_of}
-use Rattle.ultra_mem.specs.declared.Placed.{Placed}
-use Rattle.ultra_mem.specs.Serve.{ModuleState, after_serving}
+use Rattle.ultra_switch.specs.{declared.QueueEntry.QueueEntry, Queues.request_of}
+use Rattle.ultra_mem.specs.{declared.Placed.Placed, Serve.{ModuleState, after_serving}}
 use Rattle.ultra_isa.specs.declared.Instr.{Instr}
 use Rattle.ultra_isa.proofs.Steps.{step_is}
 use Rattle.ultra_model.specs.Machine.{Settings, Machine, size, site, last_stage, lane_at, replies_at, module_at, element_at}
 use Rattle.ultra_model.specs.Phases.{reply_phase, memory_phase, request_phase, processor_phase, entering, with_request, step_at}
 use Rattle.ultra_model.specs.Ranges.{AreInRange}
-use Rattle.ultra_model.proofs.Each.{each-first}
-use Rattle.ultra_model.proofs.OnRoute.{some-request}
-use Rattle.ultra_model.proofs.Routes.{turns_back}
-use Rattle.ultra_model.proofs.AtPlaces.{memory_module-memory_phase, memory_module-request_phase, element-processor_phase}
-use Rattle.ultra_hot_spot.proofs.Others.{IsAway, away_after}
-use Rattle.ultra_hot_spot.proofs.Quiet.{same_queue, element_stays, input_stays}
-use Rattle.ultra_hot_spot.proofs.Behind.{clear_requested, left_requested}
-use Rattle.ultra_hot_spot.proofs.Stages.{IsCalm, IsClear, HasLeft}
+use Rattle.ultra_model.proofs.{Each.each-first, OnRoute.some-request, Routes.turns_back, AtPlaces.{memory_module-memory_phase, memory_module-request_phase, element-processor_phase}}
+use Rattle.ultra_hot_spot.proofs.{Others.{IsAway, away_after}, Quiet.{same_queue, element_stays, input_stays}, Behind.{clear_requested, left_requested}, Stages.{IsCalm, IsClear, HasLeft}}
 
 -- what a module has to serve is for another cell
 abbrev pub ServesOther : ℕ → ModuleState → Type 0

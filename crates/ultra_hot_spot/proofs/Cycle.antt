@@ -2,15 +2,10 @@
 use Rattle.std.proofs.Common.{◌≡◌, ℕ, zero, suc, ◌+◌, ◌<◌, ◌≤◌, List, refl, arith, ◌∙◌, add-one}
 use Rattle.ultra_msg.specs.declared.Request.{Request}
 use Rattle.ultra_isa.specs.declared.Instr.{Instr}
-use Rattle.ultra_model.specs.Machine.{Settings, Machine, start}
+use Rattle.ultra_model.specs.{Machine.{Settings, Machine, start}, Ranges.AreInRange}
 use Rattle.ultra_model.specs.Phases.{reply_phase, memory_phase, request_phase, processor_phase, cycle, after}
-use Rattle.ultra_model.specs.Ranges.{AreInRange}
-use Rattle.ultra_hot_spot.proofs.Calm.{away_processed}
-use Rattle.ultra_hot_spot.proofs.Onward.{hot_requests_set_out}
-use Rattle.ultra_hot_spot.proofs.Moving.{hot_requests_move}
-use Rattle.ultra_hot_spot.proofs.Module.{hot_request_enters, inside_replied, hot_request_is_served}
+use Rattle.ultra_hot_spot.proofs.{Calm.away_processed, Onward.hot_requests_set_out, Moving.hot_requests_move, Module.{hot_request_enters, inside_replied, hot_request_is_served}, Silence.{set_replied, set_acted, stage_replied, stage_acted, stage_processed}}
 use Rattle.ultra_hot_spot.proofs.Home.{served_comes, returned_comes, returned_acted, returned_moved, returned_processed, served_moved, served_processed}
-use Rattle.ultra_hot_spot.proofs.Silence.{set_replied, set_acted, stage_replied, stage_acted, stage_processed}
 use Rattle.ultra_hot_spot.proofs.Stages.{IsAsked, IsInside, IsServed, IsReturned, IsSet, IsAtStage}
 
 module _ (c : Settings) (program : List Instr) where

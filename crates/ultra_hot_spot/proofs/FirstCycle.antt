@@ -1,27 +1,20 @@
 -- where each processing element begins with a reference to cell 0, all have asked for it after the first cycle
 use Rattle.std.proofs.Common.{◌≡◌, ℕ, zero, suc, ◌+◌, ◌*◌, ◌<◌, List, [], ◌∷◌, true, refl, arith, subst, ◌∙◌, ap}
 use Rattle.std.specs.Prelude.{Some, None, nat_lt, slice_get, if◌then◌else◌}
-use Rattle.std.proofs.lemmas.Bool.Decides.{nat_tests}
-use Rattle.std.proofs.Math.Pow.{pow_pos}
+use Rattle.std.proofs.{lemmas.Bool.Decides.nat_tests, Math.Pow.pow_pos}
 use Rattle.ultra_msg.specs.declared.Request.{Request}
 use Rattle.ultra_msg.specs.declared.Op.TheVariants as op
 use Rattle.ultra_route.specs.Route.{shuffled, unshuffled}
 use Rattle.ultra_switch.specs.Arrive.{Lane, empty_lane}
-use Rattle.ultra_pni.specs.declared.Issue.TheVariants.{Sent, Full}
-use Rattle.ultra_pni.specs.Interface.{empty_interface}
-use Rattle.ultra_isa.specs.declared.Instr.{Instr}
-use Rattle.ultra_isa.specs.declared.Instr.TheVariants.{Faa}
-use Rattle.ultra_isa.specs.Instruction.{Site}
-use Rattle.ultra_isa.specs.Step.{fresh_core, refers_as, refers_where, step_of}
+use Rattle.ultra_pni.specs.{declared.Issue.TheVariants.{Sent, Full}, Interface.empty_interface}
+use Rattle.ultra_isa.specs.{declared.Instr.{Instr, TheVariants.Faa}, Instruction.Site, Step.{fresh_core, refers_as, refers_where, step_of}}
 use Rattle.ultra_model.specs.Machine.{Settings, Machine, Element, size, site, last_stage, fresh_element, start, lane_at, element_at}
 use Rattle.ultra_model.specs.Phases.{after, cycle, arriving_request, request_before, reply_phase, memory_phase, request_phase, processor_phase}
 use Rattle.ultra_model.specs.Ranges.{AreInRange}
 use Rattle.ultra_model.proofs.Routes.{turns_back}
 use Rattle.ultra_model.proofs.AtPlaces.{lane-start, replies-start, memory_module-start, element-start, element-request_phase, element-processor_phase, replies-request_phase}
 use Rattle.ultra_hot_spot.specs.AllAtOnce.{AreAllAt, HotCellOccurs}
-use Rattle.ultra_hot_spot.proofs.Quiet.{head_of, before_at, stays_empty, none_enters}
-use Rattle.ultra_hot_spot.proofs.Silence.{lane_is, element_is, silent_replied, silent_acted}
-use Rattle.ultra_hot_spot.proofs.Stages.{IsSilent}
+use Rattle.ultra_hot_spot.proofs.{Quiet.{head_of, before_at, stays_empty, none_enters}, Silence.{lane_is, element_is, silent_replied, silent_acted}, Stages.IsSilent}
 
 -- nothing has happened yet
 record IsFresh (c : Settings) (m : Machine) : Type 0 where

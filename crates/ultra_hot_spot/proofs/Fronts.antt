@@ -2,9 +2,7 @@
 use Rattle.std.proofs.Common.{◌≡◌, ℕ, zero, suc, ◌+◌, ◌-◌, ◌<◌, ◌≤◌, true, arith, sym, subst, ◌∙◌, ap}
 use Rattle.ultra_msg.specs.declared.Request.{Request}
 use Rattle.ultra_route.specs.Route.{shuffled, unshuffled, bit_of, with_lowest, line_of, entry_of}
-use Rattle.ultra_model.specs.Machine.{Settings, size, last_stage}
-use Rattle.ultra_model.specs.Ranges.{AreInRange}
-use Rattle.ultra_model.specs.Routed.{module_of}
+use Rattle.ultra_model.specs.{Machine.{Settings, size, last_stage}, Ranges.AreInRange, Routed.module_of}
 use Rattle.ultra_model.proofs.Routes.{route, route_ends, turns_back}
 use Rattle.ultra_hot_spot.specs.HotCell.{first_port, second_port, old_of, new_of}
 use Rattle.ultra_hot_spot.proofs.Meeting.{first_is_port, second_is_port, port_turns, port_on, front_next, front_first}

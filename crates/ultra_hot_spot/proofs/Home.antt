@@ -1,24 +1,15 @@
 -- the hot replies go back stage by stage, until each processing element has its answer
 use Rattle.std.proofs.Common.{◌≡◌, ℕ, suc, ◌+◌, ◌<◌, ◌≤◌, List, [], arith, sym, subst, ◌∙◌, ap}
 use Rattle.std.specs.Prelude.{Some, None, slice_get}
-use Rattle.ultra_msg.specs.declared.Request.{Request}
-use Rattle.ultra_msg.specs.declared.Reply.{Reply}
-use Rattle.ultra_msg.specs.declared.ReplyMessage.{ReplyMessage}
+use Rattle.ultra_msg.specs.declared.{Request.Request, Reply.Reply, ReplyMessage.ReplyMessage}
 use Rattle.ultra_route.specs.Route.{shuffled, unshuffled}
 use Rattle.ultra_mem.specs.Serve.{ModuleState}
 use Rattle.ultra_isa.specs.declared.Instr.{Instr}
 use Rattle.ultra_model.specs.Machine.{Settings, Machine, size, last_stage, replies_at, module_at}
 use Rattle.ultra_model.specs.Phases.{reply_before, delivered, entering, reply_phase, memory_phase, request_phase, processor_phase}
 use Rattle.ultra_model.specs.Ranges.{AreInRange}
-use Rattle.ultra_model.proofs.Routes.{turns_back}
-use Rattle.ultra_model.proofs.ReplyBalance.{before_at_last, before_below}
-use Rattle.ultra_model.proofs.AtPlaces.{replies-reply_phase, memory_module-request_phase, replies-request_phase}
-use Rattle.ultra_hot_spot.proofs.Meeting.{front_first}
-use Rattle.ultra_hot_spot.proofs.Quiet.{none_before, lane_unsplit, no_replies}
-use Rattle.ultra_hot_spot.proofs.Onward.{leads_first}
-use Rattle.ultra_hot_spot.proofs.Calm.{calm_replied, calm_acted, calm_moved, left_moved, calm_processed}
-use Rattle.ultra_hot_spot.proofs.Module.{same_output}
-use Rattle.ultra_hot_spot.proofs.Returning.{one_reply, no_reply}
+use Rattle.ultra_model.proofs.{Routes.turns_back, ReplyBalance.{before_at_last, before_below}, AtPlaces.{replies-reply_phase, memory_module-request_phase, replies-request_phase}}
+use Rattle.ultra_hot_spot.proofs.{Meeting.front_first, Quiet.{none_before, lane_unsplit, no_replies}, Onward.leads_first, Calm.{calm_replied, calm_acted, calm_moved, left_moved, calm_processed}, Module.same_output, Returning.{one_reply, no_reply}}
 use Rattle.ultra_hot_spot.proofs.Stages.{IsAsked, fronts, IsCalm, IsReplyOn, IsServed, AreComing, IsReturned, HasLeft}
 
 module _ (c : Settings) (range : AreInRange c) (a n : ℕ) (asked : ℕ → Request) (each : IsAsked c a asked) (some_waits : 1 ≤ c.wait_places) where

@@ -3,29 +3,15 @@ use Rattle.std.proofs.Common.{◌≡◌, ◌≢◌, ℕ, zero, suc, ◌+◌, ◌
 use Rattle.std.specs.Prelude.{Option, Some, None, ◌==◌, if◌then◌else◌, slice_index_or}
 use Rattle.std.specs.List.{AllByRecursion, Contains}
 use Rattle.std.proofs.lemmas.Bool.{cases_eq, cases_lt}
-use Rattle.ultra_msg.specs.declared.Request.{Request}
-use Rattle.ultra_msg.specs.declared.Event.TheVariants.{Delivered}
-use Rattle.ultra_mem.specs.declared.Served.{Served as Act}
-use Rattle.ultra_mem.specs.Serve.{act_of, served}
+use Rattle.ultra_msg.specs.declared.{Request.Request, Event.TheVariants.Delivered}
+use Rattle.ultra_mem.specs.{declared.Served.Served as Act, Serve.{act_of, served}}
 use Rattle.ultra_pni.specs.Ring.{no_request}
 use Rattle.ultra_isa.specs.declared.Instr.{Instr}
-use Rattle.ultra_model.specs.Machine.{Settings, Machine, size, module_at, element_at}
-use Rattle.ultra_model.specs.Places.{present}
-use Rattle.ultra_model.specs.Phases.{serving, reply_phase, cycle, after}
-use Rattle.ultra_model.specs.Ranges.{AreInRange}
-use Rattle.ultra_model.specs.Routed.{module_of, IsOwn}
-use Rattle.ultra_model.proofs.Neighbours.{itself, other}
-use Rattle.ultra_model.proofs.Routes.{module_small}
-use Rattle.ultra_model.proofs.Sound.{after_is_sound}
+use Rattle.ultra_model.specs.{Machine.{Settings, Machine, size, module_at, element_at}, Places.present, Phases.{serving, reply_phase, cycle, after}, Ranges.AreInRange, Routed.{module_of, IsOwn}}
+use Rattle.ultra_model.proofs.{Neighbours.{itself, other}, Routes.module_small, Sound.after_is_sound}
 use Rattle.ultra_hot_spot.specs.AllAtOnce.{acts_on, AreAllAt, AreServedAtOnce, HotCellLaw}
-use Rattle.ultra_hot_spot.proofs.Fronts.{front_cell}
-use Rattle.ultra_hot_spot.proofs.Quiet.{input_stays}
-use Rattle.ultra_hot_spot.proofs.Calm.{ServesOther}
-use Rattle.ultra_hot_spot.proofs.Module.{inside_replied, served_here}
-use Rattle.ultra_hot_spot.proofs.Home.{all_answered}
+use Rattle.ultra_hot_spot.proofs.{Fronts.front_cell, Quiet.input_stays, Calm.ServesOther, Module.{inside_replied, served_here}, Home.all_answered, Acts.{acts_of_cycle, one_listed, no_act, serves_one, delivery_listed}, Opened.pending_is_open}
 use Rattle.ultra_hot_spot.proofs.Cycle.{after_next, cycles_after, set_cycle, stage_cycle, last_cycle, inside_cycle, served_cycle, returned_cycle}
-use Rattle.ultra_hot_spot.proofs.Acts.{acts_of_cycle, one_listed, no_act, serves_one, delivery_listed}
-use Rattle.ultra_hot_spot.proofs.Opened.{pending_is_open}
 use Rattle.ultra_hot_spot.proofs.Stages.{IsAsked, fronts, placed, IsInside, IsServed, IsReturned, IsSet, IsAtStage}
 
 module _ (c : Settings) (range : AreInRange c) (some_waits : 1 ≤ c.wait_places) (program : List Instr) (n a : ℕ) (w : AreAllAt c a (after c program n)) where

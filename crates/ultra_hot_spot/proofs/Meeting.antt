@@ -1,18 +1,14 @@
 -- where the hot requests come to a stage that is empty, they combine there two by two
 use Rattle.std.proofs.Common.{◌≡◌, ℕ, suc, ◌+◌, ◌-◌, ◌*◌, ◌/◌, ◌%◌, ◌<◌, ◌≤◌, List, [], ◌∷◌, ◌++◌, Bool, true, false, refl, arith, sym, subst, ◌∙◌, ap, ⊎_elim}
 use Rattle.std.specs.Prelude.{Option, Some, None, ◌==◌, nat_lt, nat_le, length}
-use Rattle.std.proofs.lemmas.Bool.{eqb-true, cases_Bool}
-use Rattle.std.proofs.lemmas.Bool.Decides.{nat_tests}
+use Rattle.std.proofs.lemmas.Bool.{eqb-true, cases_Bool, Decides.nat_tests}
 use Rattle.ultra_msg.specs.declared.Request.{Request}
 use Rattle.ultra_route.specs.Route.{unshuffled, bit_of, with_lowest}
 use Rattle.ultra_switch.specs.Arrive.{Lane, empty_lane, entry, sent_for, combined_entry, wait_record, combine, after_arrival, arrive}
-use Rattle.ultra_model.specs.Places.{after_leaving}
+use Rattle.ultra_model.specs.{Places.after_leaving, Ranges.AreInRange, Routed.module_of}
 use Rattle.ultra_model.specs.Machine.{Settings, Machine, size, last_stage, lane_at, request_exit}
 use Rattle.ultra_model.specs.Phases.{arrive_all, has_request_room, request_before, admitted, arriving_request, requests_by, arrivals_by, arrivals, lane_after_leaving, leaving_request, next_lane}
-use Rattle.ultra_model.specs.Ranges.{AreInRange}
-use Rattle.ultra_model.specs.Routed.{module_of}
-use Rattle.ultra_model.proofs.Neighbours.{itself, even_half, odd_half}
-use Rattle.ultra_model.proofs.Routes.{module_small, turns_back, two_ports}
+use Rattle.ultra_model.proofs.{Neighbours.{itself, even_half, odd_half}, Routes.{module_small, turns_back, two_ports}}
 use Rattle.ultra_hot_spot.specs.HotCell.{first_port, second_port, front, old_of, new_of, record_of}
 use Rattle.ultra_hot_spot.proofs.Lines.{Leads, lead}
 use Rattle.ultra_hot_spot.proofs.Stages.{IsPort, turned, is_on, fronts, lines, hot_at}

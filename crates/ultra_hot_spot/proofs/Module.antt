@@ -2,22 +2,13 @@
 use Rattle.std.proofs.Common.{◌≡◌, ◌≢◌, ℕ, suc, ◌+◌, ◌-◌, ◌/◌, ◌%◌, ◌^◌, ◌<◌, ◌≤◌, Bool, true, false, refl, arith, sym, subst, ◌∙◌, ap}
 use Rattle.std.specs.Prelude.{Option, Some, None, IfSome, ◌==◌}
 use Rattle.std.proofs.Math.Nat.{div-one, mod-eq_of_lt}
-use Rattle.ultra_msg.specs.declared.Request.{Request}
-use Rattle.ultra_msg.specs.declared.Reply.{Reply}
-use Rattle.ultra_msg.specs.Act.{act}
-use Rattle.ultra_mem.specs.declared.Placed.{Placed}
-use Rattle.ultra_mem.specs.declared.Served.{Served as Act}
+use Rattle.ultra_msg.specs.{declared.{Request.Request, Reply.Reply}, Act.act}
+use Rattle.ultra_mem.specs.declared.{Placed.Placed, Served.Served as Act}
 use Rattle.ultra_mem.specs.Serve.{ModuleState, value_at, act_of, after_serving, serve, served}
-use Rattle.ultra_model.specs.Machine.{Settings, Machine, size, last_stage, module_at}
+use Rattle.ultra_model.specs.{Machine.{Settings, Machine, size, last_stage, module_at}, Ranges.AreInRange, Routed.module_of}
 use Rattle.ultra_model.specs.Phases.{reply_before, reply_phase, memory_phase, request_phase, entering, with_request}
-use Rattle.ultra_model.specs.Ranges.{AreInRange}
-use Rattle.ultra_model.specs.Routed.{module_of}
-use Rattle.ultra_model.proofs.Routes.{turns_back}
-use Rattle.ultra_model.proofs.AtPlaces.{memory_module-memory_phase, memory_module-request_phase, replies-request_phase}
-use Rattle.ultra_hot_spot.proofs.Fronts.{front_cell}
-use Rattle.ultra_hot_spot.proofs.Quiet.{none_before, lane_unsplit, no_replies, memory_module_stays}
-use Rattle.ultra_hot_spot.proofs.Moving.{enters_at, clear_of_all, left_everywhere}
-use Rattle.ultra_hot_spot.proofs.Calm.{clear_replied}
+use Rattle.ultra_model.proofs.{Routes.turns_back, AtPlaces.{memory_module-memory_phase, memory_module-request_phase, replies-request_phase}}
+use Rattle.ultra_hot_spot.proofs.{Fronts.front_cell, Quiet.{none_before, lane_unsplit, no_replies, memory_module_stays}, Moving.{enters_at, clear_of_all, left_everywhere}, Calm.clear_replied}
 use Rattle.ultra_hot_spot.proofs.Stages.{is_on, IsAsked, fronts, placed, held, IsInside, IsServed, IsAtStage}
 
 -- a request that comes to a module leaves the reply behind it

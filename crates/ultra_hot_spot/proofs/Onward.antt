@@ -4,22 +4,12 @@ use Rattle.std.specs.Prelude.{Option, Some, None, slice_get}
 use Rattle.std.proofs.Math.Nat.{div-eq_of_lt, mod-one}
 use Rattle.ultra_msg.specs.declared.Request.{Request}
 use Rattle.ultra_route.specs.Route.{shuffled, unshuffled}
-use Rattle.ultra_switch.specs.declared.QueueEntry.{QueueEntry}
-use Rattle.ultra_switch.specs.Arrive.{Lane, empty_lane, entry}
-use Rattle.ultra_model.specs.Places.{after_leaving}
+use Rattle.ultra_switch.specs.{declared.QueueEntry.QueueEntry, Arrive.{Lane, empty_lane, entry}}
+use Rattle.ultra_model.specs.{Places.after_leaving, Phases.{request_before, arriving_request, request_phase}, Ranges.AreInRange, Routed.module_of}
 use Rattle.ultra_model.specs.Machine.{Settings, Machine, Element, size, last_stage, lane_at, element_at}
-use Rattle.ultra_model.specs.Phases.{request_before, arriving_request, request_phase}
-use Rattle.ultra_model.specs.Ranges.{AreInRange}
-use Rattle.ultra_model.specs.Routed.{module_of}
-use Rattle.ultra_model.proofs.Neighbours.{itself}
-use Rattle.ultra_model.proofs.Routes.{turns_back, module_small}
-use Rattle.ultra_model.proofs.RequestBalance.{before_first}
-use Rattle.ultra_model.proofs.AtPlaces.{lane-request_phase, element-request_phase, replies-request_phase}
+use Rattle.ultra_model.proofs.{Neighbours.itself, Routes.{turns_back, module_small}, RequestBalance.before_first, AtPlaces.{lane-request_phase, element-request_phase, replies-request_phase}}
 use Rattle.ultra_hot_spot.specs.HotCell.{front, record_of}
-use Rattle.ultra_hot_spot.proofs.Meeting.{front_first, all_arrive, hot_requests_reach}
-use Rattle.ultra_hot_spot.proofs.Fronts.{front_cell}
-use Rattle.ultra_hot_spot.proofs.Others.{Keeps, keeps_alone, IsAway}
-use Rattle.ultra_hot_spot.proofs.Quiet.{head_of, before_at, stays_empty, none_enters}
+use Rattle.ultra_hot_spot.proofs.{Meeting.{front_first, all_arrive, hot_requests_reach}, Fronts.front_cell, Others.{Keeps, keeps_alone, IsAway}, Quiet.{head_of, before_at, stays_empty, none_enters}}
 use Rattle.ultra_hot_spot.proofs.Stages.{is_on, IsAsked, fronts, lines, hot_at, left_behind, IsSilent, IsSet, IsAtStage}
 
 -- where the head of a queue of at most one request leaves, nothing is left

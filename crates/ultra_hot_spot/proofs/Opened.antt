@@ -3,14 +3,8 @@ use Rattle.std.proofs.Common.{◌≡◌, ℕ, ◌<◌, [], ◌∷◌, true, refl
 use Rattle.std.proofs.lemmas.Bool.{cases_Bool}
 use Rattle.ultra_msg.specs.declared.Request.{Request}
 use Rattle.ultra_pni.specs.Interface.{is_open}
-use Rattle.ultra_model.specs.Machine.{Settings, Machine, size, element_at}
-use Rattle.ultra_model.specs.Ranges.{AreInRange}
-use Rattle.ultra_model.specs.Balance.{passes, pending_on_way, IsBalanced}
-use Rattle.ultra_model.proofs.Sums.{total_term}
-use Rattle.ultra_model.proofs.Counting.{is_reference}
-use Rattle.ultra_model.proofs.Neighbours.{itself}
-use Rattle.ultra_model.proofs.Balanced.{none_open}
-use Rattle.ultra_model.proofs.ReplyBalance.{opened_once}
+use Rattle.ultra_model.specs.{Machine.{Settings, Machine, size, element_at}, Ranges.AreInRange, Balance.{passes, pending_on_way, IsBalanced}}
+use Rattle.ultra_model.proofs.{Sums.total_term, Counting.is_reference, Neighbours.itself, Balanced.none_open, ReplyBalance.opened_once}
 
 module _ (c : Settings) (range : AreInRange c) (m : Machine) (b : IsBalanced c m) where
   is_itself : (p a : ℕ) → is_reference p a p a ≡ true

@@ -2,15 +2,11 @@
 use Rattle.std.proofs.Common.{◌≡◌, ◌≢◌, ℕ, List, [], ◌∷◌, ◌++◌, Bool, true, false, refl, sym, subst, ◌∙◌, ap, append_assoc}
 use Rattle.std.specs.Prelude.{Option, Some, None, IfSome, ◌==◌, ◌||◌, nat_lt, length}
 use Rattle.std.specs.List.{AllByRecursion}
-use Rattle.std.proofs.lemmas.List.{append-nil}
-use Rattle.std.proofs.lemmas.List.Folds.{list_any-append}
+use Rattle.std.proofs.lemmas.List.{append-nil, Folds.list_any-append}
 use Rattle.ultra_msg.specs.declared.Request.{Request}
-use Rattle.ultra_switch.specs.declared.QueueEntry.{QueueEntry}
-use Rattle.ultra_switch.specs.declared.WaitRecord.{WaitRecord}
+use Rattle.ultra_switch.specs.declared.{QueueEntry.QueueEntry, WaitRecord.WaitRecord}
 use Rattle.ultra_switch.specs.Arrive.{Lane, Combination, entry, behind, can_combine, wait_record, combined_entry, combine, combine_within, after_arrival, arrive}
-use Rattle.ultra_pni.specs.declared.OpenCell.{OpenCell}
-use Rattle.ultra_pni.specs.declared.Issue.TheVariants.{Sent}
-use Rattle.ultra_pni.specs.Interface.{Interface, is_open, after_issue}
+use Rattle.ultra_pni.specs.{declared.{OpenCell.OpenCell, Issue.TheVariants.Sent}, Interface.{Interface, is_open, after_issue}}
 use Rattle.ultra_isa.specs.Instruction.{Site}
 use Rattle.ultra_isa.proofs.Steps.{SendsInto}
 use Rattle.ultra_model.specs.Phases.{arrive_all}

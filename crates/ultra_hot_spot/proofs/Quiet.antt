@@ -2,23 +2,15 @@
 -- request is before a stage
 use Rattle.std.proofs.Common.{◌≡◌, ℕ, ◌+◌, ◌-◌, ◌*◌, ◌/◌, ◌%◌, ◌<◌, List, [], ◌++◌, Bool, true, false, refl, arith, ◌∙◌, ap}
 use Rattle.std.specs.Prelude.{Option, Some, None, slice_get, ◌==◌}
-use Rattle.std.proofs.lemmas.Bool.{eqb-true}
-use Rattle.std.proofs.lemmas.Bool.Decides.{nat_tests}
-use Rattle.ultra_msg.specs.declared.Request.{Request}
-use Rattle.ultra_msg.specs.declared.ReplyMessage.{ReplyMessage}
+use Rattle.std.proofs.lemmas.Bool.{eqb-true, Decides.nat_tests}
+use Rattle.ultra_msg.specs.declared.{Request.Request, ReplyMessage.ReplyMessage}
 use Rattle.ultra_route.specs.Route.{shuffled, unshuffled}
-use Rattle.ultra_switch.specs.Arrive.{Lane, empty_lane}
-use Rattle.ultra_switch.specs.Queues.{request_of}
-use Rattle.ultra_switch.specs.declared.QueueEntry.{QueueEntry}
-use Rattle.ultra_mem.specs.Serve.{ModuleState, IsIdle, serve}
-use Rattle.ultra_mem.specs.declared.Placed.{Placed}
-use Rattle.ultra_model.specs.Places.{after_leaving}
+use Rattle.ultra_switch.specs.{Arrive.{Lane, empty_lane}, Queues.request_of, declared.QueueEntry.QueueEntry}
+use Rattle.ultra_mem.specs.{Serve.{ModuleState, IsIdle, serve}, declared.Placed.Placed}
+use Rattle.ultra_model.specs.{Places.after_leaving, Ranges.AreInRange}
 use Rattle.ultra_model.specs.Machine.{Settings, Machine, size, last_stage, lane_at, replies_at, module_at, element_at}
 use Rattle.ultra_model.specs.Phases.{deliver, without_reply, records_left, reply_before, has_reply_room, arriving_reply, leaving_reply, replies_at_exit, delivered, reply_phase, memory_phase, request_before, arriving_request, arrivals_by, arrivals, leaving_request, entering, with_request, request_phase}
-use Rattle.ultra_model.specs.Ranges.{AreInRange}
-use Rattle.ultra_model.proofs.Each.{if_tested}
-use Rattle.ultra_model.proofs.Neighbours.{other}
-use Rattle.ultra_model.proofs.Routes.{two_ports}
+use Rattle.ultra_model.proofs.{Each.if_tested, Neighbours.other, Routes.two_ports}
 use Rattle.ultra_model.proofs.AtPlaces.{lane-reply_phase, replies-reply_phase, memory_module-reply_phase, element-reply_phase, memory_module-memory_phase, lane-request_phase, memory_module-request_phase}
 
 pub none_left : {X Y : Type 0} (o : Option Y) → ◌≡◌ {A = List X} (after_leaving o []) []

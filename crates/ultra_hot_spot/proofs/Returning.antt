@@ -2,26 +2,16 @@
 use Rattle.std.proofs.Common.{◌≡◌, ◌≢◌, ℕ, suc, ◌+◌, ◌-◌, ◌*◌, ◌/◌, ◌%◌, ◌<◌, ◌≤◌, ◌⊎◌, inl, inr, List, [], ◌∷◌, ◌++◌, Bool, true, false, refl, arith, sym, subst, ◌∙◌, ap, ⊎_elim}
 use Rattle.std.specs.Prelude.{Option, Some, None, ◌==◌, ◌&&◌, nat_le, length}
 use Rattle.std.specs.List.{filter}
-use Rattle.std.proofs.lemmas.List.{append-nil}
-use Rattle.std.proofs.lemmas.Bool.{cases_Bool, cases_lt}
-use Rattle.std.proofs.lemmas.Bool.Decides.{nat_tests}
-use Rattle.ultra_msg.specs.declared.Request.{Request}
-use Rattle.ultra_msg.specs.declared.Reply.{Reply}
-use Rattle.ultra_msg.specs.declared.ReplyMessage.{ReplyMessage}
+use Rattle.std.proofs.lemmas.{List.append-nil, Bool.{cases_Bool, cases_lt, Decides.nat_tests}}
+use Rattle.ultra_msg.specs.declared.{Request.Request, Reply.Reply, ReplyMessage.ReplyMessage}
 use Rattle.ultra_route.specs.Route.{unshuffled, bit_of}
-use Rattle.ultra_switch.specs.declared.WaitRecord.{WaitRecord}
-use Rattle.ultra_switch.specs.Split.{is_of, replies_of, old_reply, new_reply}
-use Rattle.ultra_model.specs.Places.{after_leaving}
+use Rattle.ultra_switch.specs.{declared.WaitRecord.WaitRecord, Split.{is_of, replies_of, old_reply, new_reply}}
+use Rattle.ultra_model.specs.{Places.after_leaving, Ranges.AreInRange, Routed.module_of}
 use Rattle.ultra_model.specs.Machine.{Settings, Machine, size, last_stage, lane_at, replies_at, reply_exit}
 use Rattle.ultra_model.specs.Phases.{has_reply_room, reply_before, arriving_reply, replies_made, leaving_reply, replies_at_exit, next_replies}
-use Rattle.ultra_model.specs.Ranges.{AreInRange}
-use Rattle.ultra_model.specs.Routed.{module_of}
-use Rattle.ultra_model.proofs.Neighbours.{itself, other, even_half, odd_half}
-use Rattle.ultra_model.proofs.Routes.{two_ports}
+use Rattle.ultra_model.proofs.{Neighbours.{itself, other, even_half, odd_half}, Routes.two_ports}
 use Rattle.ultra_hot_spot.specs.HotCell.{first_port, second_port, old_of, record_of}
-use Rattle.ultra_hot_spot.proofs.Meeting.{leads_at}
-use Rattle.ultra_hot_spot.proofs.Fronts.{front_cell, old_goes, new_goes, front_is_old, old_small}
-use Rattle.ultra_hot_spot.proofs.Quiet.{none_left, none_goes_by}
+use Rattle.ultra_hot_spot.proofs.{Meeting.leads_at, Fronts.{front_cell, old_goes, new_goes, front_is_old, old_small}, Quiet.{none_left, none_goes_by}}
 use Rattle.ultra_hot_spot.proofs.Stages.{turned, is_on, IsAsked, fronts, left_behind, AreComing}
 
 four_room : (r : ℕ) → 4 ≤ r → nat_le (0 + 4) r ≡ true

@@ -1,18 +1,13 @@
 -- the invariant of the hot requests, stage by stage: where they are on their way to memory and back, and what else there is
 use Rattle.std.proofs.Common.{◌≡◌, ◌≢◌, ℕ, suc, ◌+◌, ◌-◌, ◌/◌, ◌<◌, List, [], ◌∷◌, Bool, true, false}
 use Rattle.std.specs.Prelude.{Option, Some, None, IfSome, slice_get}
-use Rattle.ultra_msg.specs.declared.Request.{Request}
-use Rattle.ultra_msg.specs.declared.Reply.{Reply}
-use Rattle.ultra_msg.specs.declared.ReplyMessage.{ReplyMessage}
+use Rattle.ultra_msg.specs.declared.{Request.Request, Reply.Reply, ReplyMessage.ReplyMessage}
 use Rattle.ultra_route.specs.Route.{unshuffled, bit_of, with_lowest, line_of}
-use Rattle.ultra_switch.specs.declared.WaitRecord.{WaitRecord}
-use Rattle.ultra_switch.specs.Arrive.{Lane, empty_lane}
-use Rattle.ultra_mem.specs.declared.Placed.{Placed}
-use Rattle.ultra_mem.specs.Serve.{IsIdle}
+use Rattle.ultra_switch.specs.{declared.WaitRecord.WaitRecord, Arrive.{Lane, empty_lane}}
+use Rattle.ultra_mem.specs.{declared.Placed.Placed, Serve.IsIdle}
 use Rattle.ultra_pni.specs.Interface.{is_open}
 use Rattle.ultra_model.specs.Machine.{Settings, Machine, size, last_stage, lane_at, replies_at, module_at, element_at}
-use Rattle.ultra_model.specs.Phases.{reply_before}
-use Rattle.ultra_model.specs.Routed.{module_of}
+use Rattle.ultra_model.specs.{Phases.reply_before, Routed.module_of}
 use Rattle.ultra_hot_spot.specs.HotCell.{leads_to, front, on_line, left_at, reached}
 use Rattle.ultra_hot_spot.proofs.Others.{AreOtherEntries, Keeps, IsAway}
 

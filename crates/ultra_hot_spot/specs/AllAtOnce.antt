@@ -2,17 +2,12 @@
 -- 1983 paper's; the counts of cycles are this project's profile
 use Rattle.std.specs.Prelude.{◌≡◌, ◌<◌, ◌≤◌, ◌+◌, ◌*◌, ℕ, List, [], ◌∷◌, ◌++◌, ◌==◌, if◌then◌else◌}
 use Rattle.std.specs.List.{Contains}
-use Rattle.ultra_msg.specs.declared.Request.{Request}
-use Rattle.ultra_msg.specs.declared.Reply.{Reply}
-use Rattle.ultra_msg.specs.declared.Event.{Event}
-use Rattle.ultra_msg.specs.declared.Event.TheVariants.{Delivered, Served, Combined, Issued}
+use Rattle.ultra_msg.specs.declared.{Request.Request, Reply.Reply, Event.{Event, TheVariants.{Delivered, Served, Combined, Issued}}}
 use Rattle.ultra_switch.specs.Arrive.{empty_lane}
 use Rattle.ultra_mem.specs.Serve.{IsIdle}
-use Rattle.ultra_isa.specs.declared.Instr.{Instr}
-use Rattle.ultra_isa.specs.declared.Instr.TheVariants.{Faa}
+use Rattle.ultra_isa.specs.declared.Instr.{Instr, TheVariants.Faa}
 use Rattle.ultra_model.specs.Machine.{Settings, Machine, size, lane_at, replies_at, module_at, element_at}
-use Rattle.ultra_model.specs.Phases.{after}
-use Rattle.ultra_model.specs.Ranges.{AreInRange}
+use Rattle.ultra_model.specs.{Phases.after, Ranges.AreInRange}
 
 -- the requests for cell a that the memory serves in these events
 abbrev pub act_on : ℕ → Event → List Request

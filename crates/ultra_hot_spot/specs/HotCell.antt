@@ -4,8 +4,7 @@
 use Rattle.std.specs.Prelude.{ℕ, zero, suc, ◌+◌, ◌-◌, ◌*◌, ◌/◌, ◌%◌, ◌^◌, List, [], ◌∷◌, Bool, true, false, ◌==◌, Option, Some, None}
 use Rattle.ultra_msg.specs.declared.Request.{Request}
 use Rattle.ultra_route.specs.Route.{unshuffled}
-use Rattle.ultra_switch.specs.declared.WaitRecord.{WaitRecord}
-use Rattle.ultra_switch.specs.Arrive.{Lane, empty_lane, entry, sent_for, wait_record}
+use Rattle.ultra_switch.specs.{declared.WaitRecord.WaitRecord, Arrive.{Lane, empty_lane, entry, sent_for, wait_record}}
 
 -- whether line x before stage s of d stages leads to module k: its low bits are the high bits of k
 abbrev pub leads_to : ℕ → ℕ → ℕ → ℕ → Bool

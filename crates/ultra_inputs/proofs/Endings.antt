@@ -3,11 +3,8 @@ use Rattle.std.proofs.Common.{◌≡◌, ◌≢◌, ℕ, inl, inr, refl, subst}
 use Rattle.std.specs.Prelude.{List}
 use Rattle.ultra_isa.specs.declared.Instr.{Instr}
 use Rattle.ultra_model.specs.Machine.{Settings}
-use Rattle.ultra_inputs.specs.declared.failure.Failure.{Failure}
+use Rattle.ultra_inputs.specs.{declared.failure.Failure.Failure, Failure.{status_of, read_failures, write_failures}, Status.{IsStatus, IsRefusal, status_failures}, Traffic.{Traffic, IsStopped, TextFails, refused, stopped}}
 use Rattle.ultra_inputs.specs.declared.failure.Failure.TheVariants.{Usage, ArgumentsNotUtf8, NotRead, NotToml, BadField, UnknownKey, NotUtf8, BadProgramLine, BadJob, NotAnEntry, BadPe, NotFenced, NotLegal, BadParameter, NoMemory, NoThread, HeapTooSmall, HeapFull, NotWritten}
-use Rattle.ultra_inputs.specs.Failure.{status_of, read_failures, write_failures}
-use Rattle.ultra_inputs.specs.Status.{IsStatus, IsRefusal, status_failures}
-use Rattle.ultra_inputs.specs.Traffic.{Traffic, IsStopped, TextFails, refused, stopped}
 
 one : IsStatus 1
 one = inr (inl refl)

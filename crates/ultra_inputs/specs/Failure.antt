@@ -1,7 +1,6 @@
 -- how a command that failed ends: its status, and its line; this project's profile
 use Rattle.std.specs.Prelude.{ℕ, List, [], ◌++◌, codes, decimal, string_bytes}
-use Rattle.std.specs.declared.io.ErrorKind.{ErrorKind}
-use Rattle.std.specs.declared.io.ErrorKind.TheVariants.{OutOfMemory}
+use Rattle.std.specs.declared.io.ErrorKind.{ErrorKind, TheVariants.OutOfMemory}
 use Rattle.ultra_asm.specs.declared.AsmFaultKind.{AsmFaultKind}
 use Rattle.ultra_asm.specs.declared.AsmFaultKind.TheVariants as kind
 use Rattle.ultra_model.specs.Accepted.{name_of}

@@ -1,14 +1,11 @@
 -- what files give: settings and a program, each accepted or refused; this project's profile
 use Rattle.std.specs.Prelude.{◌≡◌, ℕ, List, [], ◌∷◌, ◌++◌, None, false, IsUtf8, ⊤}
 use Rattle.ultra_isa.specs.declared.Instr.{Instr}
-use Rattle.ultra_model.specs.Machine.{Settings}
-use Rattle.ultra_model.specs.declared.config.RawSettings.{RawSettings}
-use Rattle.ultra_model.specs.Accepted.{first_bad, settings_of}
+use Rattle.ultra_model.specs.{Machine.Settings, declared.config.RawSettings.RawSettings, Accepted.{first_bad, settings_of}}
 use Rattle.ultra_settings.specs.declared.settings.SettingsFault.TheVariants as settings
 use Rattle.ultra_settings.specs.SettingsText as settings_text
 use Rattle.ultra_settings.specs.SettingsText.{Gives}
-use Rattle.ultra_asm.specs.Words.{text_words}
-use Rattle.ultra_asm.specs.ProgramText.{IsProgramText, IsFirstFault}
+use Rattle.ultra_asm.specs.{Words.text_words, ProgramText.{IsProgramText, IsFirstFault}}
 use Rattle.ultra_inputs.specs.declared.failure.Failure.{Failure}
 use Rattle.ultra_inputs.specs.declared.failure.Failure.TheVariants.{NotRead, NotToml, BadField, UnknownKey, NotUtf8, BadProgramLine, NoMemory}
 use Rattle.ultra_io.specs.Source.{File, file_of}

@@ -2,8 +2,7 @@
 use Rattle.std.specs.Prelude.{◌≡◌, ℕ, List, ◌++◌}
 use Rattle.ultra_msg.specs.Bytes.{TakesPrefix}
 use Rattle.ultra_io.specs.Account.{SinkState}
-use Rattle.ultra_inputs.specs.Failure.{text_of}
-use Rattle.ultra_inputs.specs.declared.failure.Failure.{Failure}
+use Rattle.ultra_inputs.specs.{Failure.text_of, declared.failure.Failure.Failure}
 
 -- a stream: what it has taken, and the number of its failures
 abbrev pub stream : List ℕ → ℕ → SinkState

@@ -4,9 +4,7 @@ use Rattle.ultra_msg.specs.Bytes.{TakesPrefix}
 use Rattle.ultra_isa.specs.declared.Instr.{Instr}
 use Rattle.ultra_model.specs.Machine.{Settings}
 use Rattle.ultra_io.specs.Source.{File}
-use Rattle.ultra_inputs.specs.Inputs.{Gave, GaveNothing}
-use Rattle.ultra_inputs.specs.declared.failure.Failure.{Failure}
-use Rattle.ultra_inputs.specs.declared.failure.Failure.TheVariants.{NoMemory, NotWritten}
+use Rattle.ultra_inputs.specs.{Inputs.{Gave, GaveNothing}, declared.failure.Failure.{Failure, TheVariants.{NoMemory, NotWritten}}}
 
 -- what went in and out so far: the files that were read, and the bytes that standard output took
 pub record Traffic : Type 0 where

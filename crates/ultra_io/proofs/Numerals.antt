@@ -1,14 +1,8 @@
 -- when digits are a number, and which text a number has
 use Rattle.std.proofs.Common.{◌≡◌, ℕ, ◌+◌, ◌-◌, ◌*◌, ◌<◌, ◌≤◌, ◌^◌, Bool, true, false, ◌&&◌, List, [], ◌∷◌, length, get_or, take, Some, None, cond, decimal, nat_lt, refl, sym, ap, ◌∙◌, inl, inr, arith, lit≤}
-use Rattle.std.specs.Int.{IsInRange}
-use Rattle.std.specs.Char.{digit_value}
-use Rattle.std.specs.Str.{all_ascii_digits}
-use Rattle.std.specs.Str.Parse.{AllDigits, digits_value}
+use Rattle.std.specs.{Int.IsInRange, Char.digit_value, Str.{all_ascii_digits, Parse.{AllDigits, digits_value}}}
 use Rattle.std.proofs.lemmas.Bool.{and_from, and_parts, cond-true, cond-false, false_from_ne_true, cases_lt, ne_eqb, lt-ltb, true≢false, le-leb, leb-true, ltb-true, eq-eqb}
-use Rattle.std.proofs.lemmas.Str.{digit_value_digit}
-use Rattle.std.proofs.lemmas.Str.Parse.{digit_from_value, digit_at, digits_value-take-le, numerals_by_value, tells_digits}
-use Rattle.std.proofs.lemmas.Int.Digits.{digits_value_more}
-use Rattle.std.proofs.lemmas.Fmt.{decimal_is_IsNumeral, decimal_digit, first_decimal, decimal-digits_value}
+use Rattle.std.proofs.lemmas.{Str.{digit_value_digit, Parse.{digit_from_value, digit_at, digits_value-take-le, numerals_by_value, tells_digits}}, Int.Digits.digits_value_more, Fmt.{decimal_is_IsNumeral, decimal_digit, first_decimal, decimal-digits_value}}
 use Rattle.ultra_io.specs.Decimal.{has_leading_zero, is_number, decimal_value, plain_number}
 
 pub digit_below_ten : (c : ℕ) → IsInRange 48 57 c → digit_value c < 10

@@ -1,10 +1,8 @@
 -- the table of the two digits of each number below 100
 use Rattle.std.proofs.Common.{ℕ, zero, suc, ◌≡◌, ◌+◌, ◌*◌, ◌/◌, ◌%◌, ◌<◌, List, [], ◌∷◌, get_or, Bool, true, ◌&&◌, refl, ap₂}
 use Rattle.std.specs.Prelude.{◌==◌}
-use Rattle.std.proofs.lemmas.Bool.{and_parts, eqb-true}
-use Rattle.std.proofs.lemmas.Bool.Decides.{Decides-below_and}
-use Rattle.ultra_io.specs.FilledBytes.{two_digits}
-use Rattle.ultra_io.specs.declared.filled_bytes.TheConstants.{PAIRS}
+use Rattle.std.proofs.lemmas.Bool.{and_parts, eqb-true, Decides.Decides-below_and}
+use Rattle.ultra_io.specs.{FilledBytes.two_digits, declared.filled_bytes.TheConstants.PAIRS}
 
 abbrev pub pairs : List ℕ
 pairs = PAIRS.now

@@ -1,8 +1,6 @@
 -- what an account says; this project's profile
 use Rattle.std.specs.Prelude.{ℕ, ◌+◌, List, [], ◌∷◌, ◌++◌}
-use Rattle.ultra_io.specs.declared.account.Account.{Account}
-use Rattle.ultra_io.specs.declared.account.Account.TheVariants.{Opened, Took', Read', Failed'}
-use Rattle.ultra_io.specs.Source.{File, file_of}
+use Rattle.ultra_io.specs.{declared.account.Account.{Account, TheVariants.{Opened, Took', Read', Failed'}}, Source.{File, file_of}}
 
 -- the bytes that were taken
 abbrev pub bytes_in : Account → List ℕ

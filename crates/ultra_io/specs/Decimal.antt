@@ -1,7 +1,6 @@
 -- numbers that decimal digits write
 use Rattle.std.specs.Prelude.{ℕ, ◌^◌, Bool, ◌&&◌, ◌==◌, List, length, Option, Some, None, if◌then◌else◌, nat_lt, slice_index}
-use Rattle.std.specs.Str.{all_ascii_digits}
-use Rattle.std.specs.Str.Parse.{digits_value}
+use Rattle.std.specs.Str.{all_ascii_digits, Parse.digits_value}
 
 -- a number is written as one decimal digit or more, and is below 2^32
 abbrev pub is_number : List ℕ → Bool

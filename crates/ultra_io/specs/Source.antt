@@ -1,7 +1,6 @@
 -- what a source of files has read, and how it fails; this project's profile
 use Rattle.std.specs.Prelude.{◌≡◌, ℕ, List, Option, IfSome, All}
-use Rattle.ultra_io.specs.declared.source.SourceFault.{SourceFault}
-use Rattle.ultra_io.specs.declared.source.SourceFault.TheVariants.{NotRead, NoMemory}
+use Rattle.ultra_io.specs.declared.source.SourceFault.{SourceFault, TheVariants.{NotRead, NoMemory}}
 
 -- a file that was read: its path and its bytes
 pub record File : Type 0 where

@@ -1,8 +1,7 @@
 //! What has happened to a stream or to a source of files so far, as contracts see it.
 
 ghost use Rattle.std.specs.Prelude.{◌≡◌, ◌+◌, ◌++◌, ◌∷◌, []};
-ghost use Rattle.ultra_io.specs.Account.{bytes_in, files_in, failures_in};
-ghost use Rattle.ultra_io.specs.Source.{file_of};
+ghost use Rattle.ultra_io.specs.{Account.{bytes_in, files_in, failures_in}, Source.file_of};
 
 use std::snapshot::Snapshot;
 

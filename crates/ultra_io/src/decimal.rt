@@ -1,7 +1,6 @@
 //! Numbers that decimal digits write.
 
-ghost use Rattle.std.specs.Prelude.{◌≡◌, ◌-◌, SomeIff};
-ghost use Rattle.std.specs.Int.{IsInRange};
+ghost use Rattle.std.specs.{Prelude.{◌≡◌, ◌-◌, SomeIff}, Int.IsInRange};
 ghost use Rattle.ultra_io.specs.Decimal.{has_leading_zero, decimal_value, plain_number};
 
 /// The number that one decimal digit or more write without leading zero, if it is below `2^32`.

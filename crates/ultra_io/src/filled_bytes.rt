@@ -4,8 +4,7 @@
 //! of the processor.
 
 ghost use Rattle.std.specs.Prelude.{◌≡◌, ◌+◌, ◌<◌, ◌≤◌, ◌++◌, ◌∷◌, [], length, take, decimal};
-ghost use Rattle.ultra_io.specs.declared.filled_bytes.TheConstants.{BUFFER_BYTES};
-ghost use Rattle.ultra_io.specs.FilledBytes.{IsWritten, two_digits};
+ghost use Rattle.ultra_io.specs.{declared.filled_bytes.TheConstants.BUFFER_BYTES, FilledBytes.{IsWritten, two_digits}};
 
 /// How many bytes a buffer holds.
 pub const BUFFER_BYTES: usize = 65536;

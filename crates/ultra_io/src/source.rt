@@ -1,10 +1,8 @@
 //! Where the files of a program come from.
 
 ghost use Rattle.std.specs.Prelude.{◌≡◌, ◌≢◌, ◌↔◌, ℕ, ◌+◌, List, [], ◌∷◌, ◌++◌, IfOk, OnOk, IfErr, OnErr};
-ghost use Rattle.std.specs.Io.KnownBytes.{IsAtEnd};
-ghost use Rattle.std.specs.IoError.{error_kind};
-ghost use Rattle.ultra_io.specs.Account.{SourceState, files_in, source_state};
-ghost use Rattle.ultra_io.specs.Source.{File, file_of, failures_of, AreAllBytes, AreGivenByFiles};
+ghost use Rattle.std.specs.{Io.KnownBytes.IsAtEnd, IoError.error_kind};
+ghost use Rattle.ultra_io.specs.{Account.{SourceState, files_in, source_state}, Source.{File, file_of, failures_of, AreAllBytes, AreGivenByFiles}};
 
 use crate::account::Account;
 use std::alloc::Global;

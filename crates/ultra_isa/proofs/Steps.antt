@@ -1,20 +1,11 @@
 -- what every step says of the request that it issued
 use Rattle.std.proofs.Common.{◌≡◌, ℕ, ◌-◌, ◌<◌, ◌↔◌, List, [], ◌∷◌, ◌++◌, length, Bool, true, false, refl, sym, arith}
 use Rattle.std.specs.Prelude.{Option, Some, None, IsSome, slice_get, nat_lt, ◌==◌, if◌then◌else◌}
-use Rattle.std.proofs.lemmas.Grind.{common_steps}
-use Rattle.std.proofs.lemmas.Option.{slice_get_read}
-use Rattle.std.proofs.Math.Seq.{get_or-append_seam}
-use Rattle.std.proofs.lemmas.List.{length-append}
+use Rattle.std.proofs.{lemmas.{Grind.common_steps, Option.slice_get_read, List.length-append}, Math.Seq.get_or-append_seam}
 use Rattle.ultra_msg.specs.declared.Request.{Request}
-use Rattle.ultra_pni.specs.declared.Issue.{Issue}
-use Rattle.ultra_pni.specs.declared.Issue.TheVariants.{Sent, CellOpen, Full}
-use Rattle.ultra_pni.specs.Interface.{Interface, is_open, issue_of, after_issue}
-use Rattle.ultra_isa.specs.declared.Instr.{Instr}
-use Rattle.ultra_isa.specs.declared.MachineFault.{MachineFault}
-use Rattle.ultra_isa.specs.declared.MachineFault.TheVariants.{AddressOutOfRange, PastEnd}
-use Rattle.ultra_isa.specs.declared.Activity.{Activity}
+use Rattle.ultra_pni.specs.{declared.Issue.{Issue, TheVariants.{Sent, CellOpen, Full}}, Interface.{Interface, is_open, issue_of, after_issue}}
+use Rattle.ultra_isa.specs.declared.{Instr.Instr, MachineFault.{MachineFault, TheVariants.{AddressOutOfRange, PastEnd}}, Activity.Activity, Step.Step}
 use Rattle.ultra_isa.specs.declared.Activity.TheVariants as activity
-use Rattle.ultra_isa.specs.declared.Step.{Step}
 use Rattle.ultra_isa.specs.declared.Step.TheVariants as step
 use Rattle.ultra_isa.specs.Instruction.{Site, Effect, sets, goes_on_at, refers, waits, halts, effect}
 use Rattle.ultra_isa.specs.Step.{Core, StepResult, stays, faults, refers_as, refers_where, waits_where, does, runs_where, runs, runs_as, step_of, names_awaited}

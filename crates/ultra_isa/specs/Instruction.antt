@@ -1,8 +1,7 @@
 -- what an instruction names and what it does; this project's profile
 use Rattle.std.specs.Prelude.{ℕ, ◌+◌, ◌-◌, ◌/◌, ◌%◌, ◌^◌, List, [], ◌∷◌, ◌==◌, nat_lt, Option, Some, None, slice_index, bit_and, if◌then◌else◌}
-use Rattle.ultra_msg.specs.declared.Op.{Op}
+use Rattle.ultra_msg.specs.{declared.Op.Op, Act.plus}
 use Rattle.ultra_msg.specs.declared.Op.TheVariants as op
-use Rattle.ultra_msg.specs.Act.{plus}
 use Rattle.ultra_isa.specs.declared.Instr.{Instr}
 use Rattle.ultra_isa.specs.declared.Instr.TheVariants.{Set, Add, AddWord, Subtract, And, ShiftRight, IsBelow, IsEqual, JumpIfZero, JumpIfNotZero, Jump, Number, Size, Load, Store, Faa, Swap, Fence, Halt}
 

@@ -1,9 +1,7 @@
 -- an effect of the code as one of the definition
 use Rattle.std.specs.Prelude.{◌≤◌}
-use Rattle.ultra_isa.specs.declared.processor.Effect.{Effect as Found}
-use Rattle.ultra_isa.specs.declared.processor.Effect.TheVariants.{Sets, GoesOnAt, Refers, Waits, Halts}
+use Rattle.ultra_isa.specs.declared.{processor.Effect.{Effect as Found, TheVariants.{Sets, GoesOnAt, Refers, Waits, Halts}}, TheConstants.MOST_INSTRUCTIONS}
 use Rattle.ultra_isa.specs.Instruction.{Effect, sets, goes_on_at, refers, waits, halts}
-use Rattle.ultra_isa.specs.declared.TheConstants.{MOST_INSTRUCTIONS}
 
 abbrev pub meaning : Found → Effect
 meaning (Sets d v) = sets d v

@@ -1,9 +1,8 @@
 -- which lists of instructions are programs; this project's profile
 use Rattle.std.specs.Prelude.{ℕ, List, Bool, true, ◌&&◌, nat_le, length}
 use Rattle.std.specs.List.{list_all}
-use Rattle.ultra_isa.specs.declared.Instr.{Instr}
+use Rattle.ultra_isa.specs.declared.{Instr.Instr, TheConstants.MOST_INSTRUCTIONS}
 use Rattle.ultra_isa.specs.declared.Instr.TheVariants.{Set, Add, AddWord, Subtract, And, ShiftRight, IsBelow, IsEqual, JumpIfZero, JumpIfNotZero, Jump, Number, Size, Load, Store, Faa, Swap, Fence, Halt}
-use Rattle.ultra_isa.specs.declared.TheConstants.{MOST_INSTRUCTIONS}
 
 -- whether an instruction, if it can jump, jumps to an index that is at most the program's length
 abbrev pub jumps_within : ℕ → Instr → Bool

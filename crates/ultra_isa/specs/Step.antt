@@ -1,21 +1,13 @@
 -- one step of a processing element, and a reply that comes to it; this project's profile
 use Rattle.std.specs.Prelude.{◌≡◌, ℕ, ◌+◌, ◌≤◌, List, Bool, true, false, ◌==◌, nat_lt, length, Option, Some, None, slice_set, slice_get, replicate}
 use Rattle.std.specs.List.{list_any}
-use Rattle.ultra_msg.specs.declared.Request.{Request}
-use Rattle.ultra_msg.specs.declared.Reply.{Reply}
+use Rattle.ultra_msg.specs.declared.{Request.Request, Reply.Reply}
 use Rattle.ultra_msg.specs.declared.Reply.TheVariants as reply
-use Rattle.ultra_pni.specs.declared.Issue.{Issue}
-use Rattle.ultra_pni.specs.declared.Issue.TheVariants.{Sent, CellOpen, Full}
-use Rattle.ultra_pni.specs.Interface.{Interface, is_awaited, issue_of, after_issue}
-use Rattle.ultra_isa.specs.declared.Instr.{Instr}
-use Rattle.ultra_isa.specs.declared.MachineFault.{MachineFault}
-use Rattle.ultra_isa.specs.declared.MachineFault.TheVariants.{AddressOutOfRange, PastEnd}
-use Rattle.ultra_isa.specs.declared.Activity.{Activity}
+use Rattle.ultra_pni.specs.{declared.Issue.{Issue, TheVariants.{Sent, CellOpen, Full}}, Interface.{Interface, is_awaited, issue_of, after_issue}}
+use Rattle.ultra_isa.specs.declared.{Instr.Instr, MachineFault.{MachineFault, TheVariants.{AddressOutOfRange, PastEnd}}, Activity.Activity, Step.Step, TheConstants.MOST_INSTRUCTIONS}
 use Rattle.ultra_isa.specs.declared.Activity.TheVariants as activity
-use Rattle.ultra_isa.specs.declared.Step.{Step}
 use Rattle.ultra_isa.specs.declared.Step.TheVariants as step
 use Rattle.ultra_isa.specs.Instruction.{Site, names, Effect, sets, goes_on_at, refers, waits, halts, effect}
-use Rattle.ultra_isa.specs.declared.TheConstants.{MOST_INSTRUCTIONS}
 
 -- the registers, the program counter, and what the processing element is doing
 pub record Core : Type 0 where

@@ -3,10 +3,8 @@
 ghost use Rattle.std.specs.Prelude.{◌≡◌, ℕ, ◌+◌, ◌*◌, ◌^◌, ◌<◌, ◌≤◌, [], ◌∷◌, false, Some, None, length, slice_get, slice_set, slice_index, if◌then◌else◌, ◌-◌, ◌↔◌, IsSome, IfSome};
 ghost use Rattle.std.specs.List.{list_any};
 ghost use Rattle.ultra_pni.specs.Interface.{is_awaited};
-ghost use Rattle.ultra_isa.specs.Instruction.{effect, goes_on_at, refers};
-ghost use Rattle.ultra_isa.specs.Meaning.{meaning, StaysWithin};
+ghost use Rattle.ultra_isa.specs.{Instruction.{effect, goes_on_at, refers}, Meaning.{meaning, StaysWithin}, declared.TheConstants.MOST_INSTRUCTIONS};
 ghost use Rattle.ultra_isa.specs.Step.{IsWellFormedCore, fresh_core, is_stall, has_stopped as stopped, names_awaited, does, runs, step_of};
-ghost use Rattle.ultra_isa.specs.declared.TheConstants.{MOST_INSTRUCTIONS};
 
 use crate::{Activity, Instr, MachineFault, Program, Step};
 use std::marker::Model;

@@ -1,8 +1,7 @@
 //! Programs: lists of instructions whose jumps stay within them.
 
 ghost use Rattle.std.specs.Prelude.{◌≡◌, ◌≤◌, ◌↔◌, length, slice_get, IsOk, IfOk, IfErr, IfSome, IsTrue};
-ghost use Rattle.ultra_isa.specs.Program.{jumps_within, all_jump_within, is_program};
-ghost use Rattle.ultra_isa.specs.declared.TheConstants.{MOST_INSTRUCTIONS};
+ghost use Rattle.ultra_isa.specs.{Program.{jumps_within, all_jump_within, is_program}, declared.TheConstants.MOST_INSTRUCTIONS};
 
 use crate::{Instr, MOST_INSTRUCTIONS};
 use std::alloc::{AllocError, Global};
@@ -17,8 +16,7 @@ pub struct Program {
 
 impl Model for Program {
     ghost use Rattle.std.specs.Prelude.{List, IsTrue};
-    ghost use Rattle.ultra_isa.specs.declared.Instr.{Instr};
-    ghost use Rattle.ultra_isa.specs.Program.{is_program};
+    ghost use Rattle.ultra_isa.specs.{declared.Instr.Instr, Program.is_program};
 
     ghost Value = { List Instr };
 

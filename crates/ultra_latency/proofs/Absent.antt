@@ -1,12 +1,8 @@
 -- the first request for a cell, by its place, and a cell for which there is none
 use Rattle.std.proofs.Common.{◌≡◌, ℕ, zero, suc, ◌<◌, ◌≤◌, length, get_or, List, [], ◌∷◌, Bool, true, false, refl, ap, arith}
-use Rattle.std.specs.Prelude.{Some, None, ◌==◌}
-use Rattle.std.specs.List.{position, position_or_len}
-use Rattle.std.proofs.lemmas.List.Sums.{fails_before_first}
-use Rattle.std.proofs.lemmas.List.Quantifiers.{position-Some}
-use Rattle.std.proofs.lemmas.Grind.{common_steps}
-use Rattle.ultra_latency.specs.declared.open.OpenRequest.{OpenRequest}
-use Rattle.ultra_latency.specs.Open.{request_for, without_request}
+use Rattle.std.specs.{Prelude.{Some, None, ◌==◌}, List.{position, position_or_len}}
+use Rattle.std.proofs.lemmas.{List.{Sums.fails_before_first, Quantifiers.position-Some}, Grind.common_steps}
+use Rattle.ultra_latency.specs.{declared.open.OpenRequest.OpenRequest, Open.{request_for, without_request}}
 
 abbrev pub is_of : ℕ → OpenRequest → Bool
 is_of a o = o.cell == a

@@ -1,14 +1,9 @@
 -- the events of a cycle, by the phases that make them
 use Rattle.std.proofs.Common.{ℕ, suc, List, [], ◌∷◌, ◌++◌, ◌≡◌, ◌+◌, ◌<◌, refl, ap, ◌∙◌, append_assoc, add-one}
-use Rattle.std.specs.Prelude.{Option, Some, None, IfSome}
-use Rattle.std.specs.List.{AllByRecursion}
-use Rattle.ultra_msg.specs.declared.Request.{Request}
-use Rattle.ultra_msg.specs.declared.ReplyMessage.{ReplyMessage}
-use Rattle.ultra_msg.specs.declared.Event.{Event}
-use Rattle.ultra_msg.specs.declared.Event.TheVariants.{Delivered, Served, Combined, Issued}
+use Rattle.std.specs.{Prelude.{Option, Some, None, IfSome}, List.AllByRecursion}
+use Rattle.ultra_msg.specs.declared.{Request.Request, ReplyMessage.ReplyMessage, Event.{Event, TheVariants.{Delivered, Served, Combined, Issued}}}
 use Rattle.ultra_switch.specs.Arrive.{Lane, Combination, arrive, combine_within}
-use Rattle.ultra_mem.specs.declared.Served.{Served as Act}
-use Rattle.ultra_mem.specs.Serve.{served}
+use Rattle.ultra_mem.specs.{declared.Served.Served as Act, Serve.served}
 use Rattle.ultra_isa.specs.declared.Instr.{Instr}
 use Rattle.ultra_model.specs.Machine.{Settings, Machine, Element, size, module_at, element_at}
 use Rattle.ultra_model.specs.Places.{places, table, present, joined}

@@ -1,30 +1,17 @@
 -- the deliveries of a cycle: they name open requests, and close their cells
 use Rattle.std.proofs.Common.{ℕ, zero, suc, List, [], ◌∷◌, ◌++◌, ◌≡◌, ◌≢◌, ◌+◌, ◌-◌, ◌<◌, ◌≤◌, ◌^◌, true, length, refl, sym, ap, ◌∙◌, subst, length-set, get_or-set_other, length-append, arith}
-use Rattle.std.proofs.Math.Pow.{pow_mono}
-use Rattle.std.proofs.lemmas.Bool.Decides.{nat_tests}
+use Rattle.std.proofs.{Math.Pow.pow_mono, lemmas.Bool.Decides.nat_tests}
 use Rattle.std.specs.Prelude.{Option, Some, None, IfSome, map, slice_set, ◌==◌}
 use Rattle.std.specs.List.{AllByRecursion, range_with_len}
-use Rattle.ultra_msg.specs.declared.Request.{Request}
-use Rattle.ultra_msg.specs.declared.ReplyMessage.{ReplyMessage}
-use Rattle.ultra_msg.specs.declared.Event.{Event}
-use Rattle.ultra_msg.specs.declared.Event.TheVariants.{Delivered, Served, Combined, Issued}
-use Rattle.ultra_pni.specs.declared.OpenCell.{OpenCell}
-use Rattle.ultra_pni.specs.Interface.{is_open}
+use Rattle.ultra_msg.specs.declared.{Request.Request, ReplyMessage.ReplyMessage, Event.{Event, TheVariants.{Delivered, Served, Combined, Issued}}}
+use Rattle.ultra_pni.specs.{declared.OpenCell.OpenCell, Interface.is_open}
 use Rattle.ultra_isa.specs.declared.Instr.{Instr}
-use Rattle.ultra_model.specs.Machine.{Settings, Element, size, element_at}
-use Rattle.ultra_model.specs.Places.{places, present}
-use Rattle.ultra_model.specs.Phases.{after, delivery, deliver, issue_event}
-use Rattle.ultra_model.specs.Ranges.{AreInRange}
-use Rattle.ultra_model.specs.Balance.{count}
+use Rattle.ultra_model.specs.{Machine.{Settings, Element, size, element_at}, Places.{places, present}, Phases.{after, delivery, deliver, issue_event}, Ranges.AreInRange, Balance.count}
 use Rattle.ultra_model.proofs.Each.{each-append, each-present, each-places, each-weaker, places_at, length-places}
-use Rattle.ultra_model.proofs.ReplyBalance.{delivered_open}
-use Rattle.ultra_model.proofs.Sound.{after_is_sound}
-use Rattle.ultra_latency.specs.declared.open.OpenRequest.{OpenRequest}
-use Rattle.ultra_latency.specs.Latency.{latencies_among, latencies_of}
+use Rattle.ultra_model.proofs.{ReplyBalance.delivered_open, Sound.after_is_sound}
+use Rattle.ultra_latency.specs.{declared.open.OpenRequest.OpenRequest, Latency.{latencies_among, latencies_of}}
 use Rattle.ultra_latency.specs.Open.{row, rows_with, request_for, without_request, open_requests, open_rows, rows_after, latencies_along, IsOpenIn, NameOpen}
-use Rattle.ultra_latency.proofs.Rows.{IsNeutral}
-use Rattle.ultra_latency.proofs.Few.{present_short}
-use Rattle.ultra_latency.proofs.OpenCells.{open_found, open_left}
+use Rattle.ultra_latency.proofs.{Rows.IsNeutral, Few.present_short, OpenCells.{open_found, open_left}}
 use Rattle.ultra_latency.proofs.CycleEvents.{before, brought, deliveries, others, issues, sent, requested, events_are, others_neutral}
 
 abbrev pub IsNoDelivery : Event → Type 0

@@ -1,18 +1,14 @@
 -- how much happens in a cycle at most
 use Rattle.std.proofs.Common.{ℕ, suc, List, [], ◌∷◌, ◌++◌, ◌≡◌, ◌+◌, ◌*◌, ◌/◌, ◌%◌, ◌^◌, ◌<◌, ◌≤◌, Bool, true, false, length, length-append, refl, ap, ◌∙◌, arith}
 use Rattle.std.proofs.Math.Pow.{pow_mono}
-use Rattle.std.specs.Prelude.{Option, Some, None, ◌==◌}
-use Rattle.std.specs.List.{AllByRecursion}
-use Rattle.ultra_msg.specs.declared.Request.{Request}
-use Rattle.ultra_msg.specs.declared.Event.{Event}
+use Rattle.std.specs.{Prelude.{Option, Some, None, ◌==◌}, List.AllByRecursion}
+use Rattle.ultra_msg.specs.declared.{Request.Request, Event.Event}
 use Rattle.ultra_switch.specs.Arrive.{Lane, Combination, arrive, combine_within}
 use Rattle.ultra_mem.specs.Serve.{served}
 use Rattle.ultra_isa.specs.declared.Instr.{Instr}
-use Rattle.ultra_model.specs.declared.Stop.{Stop}
+use Rattle.ultra_model.specs.{declared.Stop.Stop, Places.{places, table, present, joined}, Ranges.AreInRange}
 use Rattle.ultra_model.specs.Machine.{Settings, Machine, size, module_at, element_at, request_exit}
-use Rattle.ultra_model.specs.Places.{places, table, present, joined}
 use Rattle.ultra_model.specs.Phases.{after, processor_phase, delivery, serving, combination, combinations, lane_after_leaving, arrivals, arrivals_by, arriving_request, requests_by, issue_event, step_at, stop_of}
-use Rattle.ultra_model.specs.Ranges.{AreInRange}
 use Rattle.ultra_model.proofs.Each.{each-joined, each-places, if_tested, length-places}
 use Rattle.ultra_latency.specs.Few.{HasFewEvents}
 use Rattle.ultra_latency.proofs.CycleEvents.{before, replied, remembered, requested, brought, sent, deliveries, servings, meetings, others, issues, next_is, events_are}

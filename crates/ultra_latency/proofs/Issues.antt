@@ -1,22 +1,15 @@
 -- the issues of a cycle: each is that of its processing element's step, for a cell that wasn't open
 use Rattle.std.proofs.Common.{ℕ, List, [], ◌∷◌, ◌++◌, ◌≡◌, ◌+◌, ◌<◌, Bool, true, false, ◌||◌, ◌&&◌, refl, sym, ap, ◌∙◌, arith}
-use Rattle.std.proofs.lemmas.Bool.Decides.{nat_tests}
-use Rattle.std.proofs.lemmas.List.{map-append}
+use Rattle.std.proofs.lemmas.{Bool.Decides.nat_tests, List.map-append}
 use Rattle.std.specs.Prelude.{Option, Some, None, IfSome, ◌==◌}
 use Rattle.ultra_msg.specs.declared.Request.{Request}
-use Rattle.ultra_pni.specs.declared.OpenCell.{OpenCell}
-use Rattle.ultra_pni.specs.Interface.{Interface, is_open}
+use Rattle.ultra_pni.specs.{declared.OpenCell.OpenCell, Interface.{Interface, is_open}}
 use Rattle.ultra_isa.specs.declared.Instr.{Instr}
 use Rattle.ultra_isa.proofs.Steps.{SendsInto}
 use Rattle.ultra_model.specs.Machine.{Settings, size, site}
-use Rattle.ultra_serial_law.specs.declared.records.LoggedIssue.{LoggedIssue}
-use Rattle.ultra_serial_law.specs.Log.{is_issue_for}
-use Rattle.ultra_serial_law.specs.SerialList.{history}
-use Rattle.ultra_latency.specs.declared.open.OpenRequest.{OpenRequest}
-use Rattle.ultra_latency.specs.Latency.{latest_among, latest_issue, no_issue}
-use Rattle.ultra_latency.specs.Open.{issued_request, open_request, open_requests}
-use Rattle.ultra_latency.proofs.CycleEvents.{sent}
-use Rattle.ultra_latency.proofs.OwnIssues.{own, logged_as, logged_if, next_number, own_next}
+use Rattle.ultra_serial_law.specs.{declared.records.LoggedIssue.LoggedIssue, Log.is_issue_for, SerialList.history}
+use Rattle.ultra_latency.specs.{declared.open.OpenRequest.OpenRequest, Latency.{latest_among, latest_issue, no_issue}, Open.{issued_request, open_request, open_requests}}
+use Rattle.ultra_latency.proofs.{CycleEvents.sent, OwnIssues.{own, logged_as, logged_if, next_number, own_next}}
 
 and_false : (b : Bool) → (b && false) ≡ false
 and_false true = refl

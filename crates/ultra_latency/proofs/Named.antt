@@ -1,39 +1,20 @@
 -- the events of a cycle name open requests
 use Rattle.std.proofs.Common.{ℕ, List, [], ◌∷◌, ◌++◌, ◌≡◌, ◌≢◌, ◌+◌, ◌<◌, ◌≤◌, inl, inr, Bool, true, refl, sym, ap, ◌∙◌, subst, arith}
 use Rattle.std.proofs.lemmas.Bool.{cases_lt}
-use Rattle.std.specs.Prelude.{Option, Some, None, IfSome, ◌==◌}
-use Rattle.std.specs.List.{AllByRecursion}
-use Rattle.ultra_msg.specs.declared.Request.{Request}
-use Rattle.ultra_msg.specs.declared.ReplyMessage.{ReplyMessage}
-use Rattle.ultra_msg.specs.declared.Event.{Event}
-use Rattle.ultra_msg.specs.declared.Event.TheVariants.{Delivered, Served, Combined, Issued}
-use Rattle.ultra_mem.specs.declared.Placed.{Placed}
-use Rattle.ultra_mem.specs.Serve.{ModuleState, act_of, served}
+use Rattle.std.specs.{Prelude.{Option, Some, None, IfSome, ◌==◌}, List.AllByRecursion}
+use Rattle.ultra_msg.specs.declared.{Request.Request, ReplyMessage.ReplyMessage, Event.{Event, TheVariants.{Delivered, Served, Combined, Issued}}}
+use Rattle.ultra_mem.specs.{declared.Placed.Placed, Serve.{ModuleState, act_of, served}}
 use Rattle.ultra_pni.specs.declared.OpenCell.{OpenCell}
 use Rattle.ultra_isa.specs.declared.Instr.{Instr}
 use Rattle.ultra_model.specs.Machine.{Settings, Machine, Element, size, lane_at, replies_at, module_at, element_at}
-use Rattle.ultra_model.specs.Places.{places, present}
-use Rattle.ultra_model.specs.Phases.{after, serving, issue_event, processor_phase}
-use Rattle.ultra_model.specs.Ranges.{AreInRange}
+use Rattle.ultra_model.specs.{Places.{places, present}, Phases.{after, serving, issue_event, processor_phase}, Ranges.AreInRange}
 use Rattle.ultra_model.specs.Balance.{weight, count, count_option, total, reply_passes, lane_on_way, module_on_way, opened_by, on_way, all_opened, IsBalanced}
-use Rattle.ultra_model.proofs.Each.{each-append, each-left, each-right, each-present, each-places}
-use Rattle.ultra_model.proofs.Sums.{total_zero}
-use Rattle.ultra_model.proofs.Neighbours.{other}
-use Rattle.ultra_model.proofs.Counting.{is_reference, none_false}
-use Rattle.ultra_model.proofs.ReplyBalance.{opened_once}
-use Rattle.ultra_model.proofs.Sound.{after_is_sound, sound-reply_phase, sound-memory_phase, sound-request_phase}
-use Rattle.ultra_model.proofs.AtPlaces.{element-memory_phase, element-request_phase}
-use Rattle.ultra_serial_law.proofs.Tidy.{total_most, that_is, tidy-reply_phase, tidy-memory_phase}
-use Rattle.ultra_serial_law.proofs.Mentions.{mention, mentions, mention_some, present_mentions, sum-places}
-use Rattle.ultra_serial_law.proofs.RequestForest.{all_parts}
-use Rattle.ultra_serial_law.proofs.Law.{serial_after}
+use Rattle.ultra_model.proofs.{Each.{each-append, each-left, each-right, each-present, each-places}, Sums.total_zero, Neighbours.other, Counting.{is_reference, none_false}, ReplyBalance.opened_once, Sound.{after_is_sound, sound-reply_phase, sound-memory_phase, sound-request_phase}, AtPlaces.{element-memory_phase, element-request_phase}}
+use Rattle.ultra_serial_law.proofs.{Tidy.{total_most, that_is, tidy-reply_phase, tidy-memory_phase}, Mentions.{mention, mentions, mention_some, present_mentions, sum-places}, RequestForest.all_parts, Law.serial_after}
 use Rattle.ultra_latency.specs.declared.open.OpenRequest.{OpenRequest}
 use Rattle.ultra_latency.specs.Open.{open_requests, open_rows, request_for, rows_with, rows_after, IsOpenIn, NamesOpen, NameOpen}
-use Rattle.ultra_latency.proofs.Rows.{IsNeutral, neutral_rows}
-use Rattle.ultra_latency.proofs.OpenCells.{open_found}
+use Rattle.ultra_latency.proofs.{Rows.{IsNeutral, neutral_rows}, OpenCells.open_found, Deliveries.{counted_open, delivered_named, named_append}, Places.{second, long_second, second_row}}
 use Rattle.ultra_latency.proofs.CycleEvents.{before, replied, remembered, requested, brought, deliveries, servings, meetings, others, issues, sent, events_are, others_neutral}
-use Rattle.ultra_latency.proofs.Deliveries.{counted_open, delivered_named, named_append}
-use Rattle.ultra_latency.proofs.Places.{second, long_second, second_row}
 
 -- ---- a reference that is on its way is open
 module _ (c : Settings) (range : AreInRange c) (m : Machine) (b : IsBalanced c m) where

@@ -2,17 +2,10 @@
 use Rattle.std.proofs.Common.{ℕ, suc, List, [], ◌∷◌, ◌≡◌, ◌+◌, ◌<◌, length, refl, sym, ap, ◌∙◌, arith}
 use Rattle.std.specs.Prelude.{map, slice_index_or}
 use Rattle.ultra_isa.specs.declared.Instr.{Instr}
-use Rattle.ultra_model.specs.Machine.{Settings, Element, size, start, element_at}
-use Rattle.ultra_model.specs.Places.{places}
-use Rattle.ultra_model.specs.Phases.{after}
-use Rattle.ultra_model.specs.Ranges.{AreInRange}
-use Rattle.ultra_latency.specs.declared.open.OpenRequest.{OpenRequest}
-use Rattle.ultra_model.proofs.AtPlaces.{element-start}
-use Rattle.ultra_model.proofs.Each.{places_at, length-places}
-use Rattle.ultra_latency.specs.Open.{open_requests, open_rows, rows_after, OpenLaw}
-use Rattle.ultra_latency.proofs.Deliveries.{few_law, latencies_named, length_rows}
-use Rattle.ultra_latency.proofs.Places.{places_law, made_row, length_made, rows_are}
-use Rattle.ultra_latency.proofs.Named.{named_law}
+use Rattle.ultra_model.specs.{Machine.{Settings, Element, size, start, element_at}, Places.places, Phases.after, Ranges.AreInRange}
+use Rattle.ultra_latency.specs.{declared.open.OpenRequest.OpenRequest, Open.{open_requests, open_rows, rows_after, OpenLaw}}
+use Rattle.ultra_model.proofs.{AtPlaces.element-start, Each.{places_at, length-places}}
+use Rattle.ultra_latency.proofs.{Deliveries.{few_law, latencies_named, length_rows}, Places.{places_law, made_row, length_made, rows_are}, Named.named_law}
 
 -- two lists with the same rows
 same_rows : (xs ys : List (List OpenRequest)) → length xs ≡ length ys → ((k : ℕ) → k < length xs → slice_index_or xs k [] ≡ slice_index_or ys k []) → xs ≡ ys

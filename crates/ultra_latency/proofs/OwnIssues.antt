@@ -1,24 +1,15 @@
 -- the issues of one processing element: a cycle adds what it sent, at most one
 use Rattle.std.proofs.Common.{ℕ, zero, suc, List, [], ◌∷◌, ◌++◌, ◌≡◌, ◌≢◌, ◌+◌, ◌<◌, ◌≤◌, inl, inr, Bool, true, false, refl, sym, ap, ◌∙◌, append-nil, append_assoc, arith}
-use Rattle.std.proofs.lemmas.Bool.{cases_lt}
-use Rattle.std.proofs.lemmas.Bool.Decides.{nat_tests}
-use Rattle.std.proofs.lemmas.List.Concat.{flat_map-append}
-use Rattle.std.proofs.lemmas.List.Elements.{filter-append}
+use Rattle.std.proofs.lemmas.{Bool.{cases_lt, Decides.nat_tests}, List.{Concat.flat_map-append, Elements.filter-append}}
 use Rattle.std.specs.Prelude.{Option, Some, None, IfSome, map, ◌==◌}
 use Rattle.std.specs.List.{AllByRecursion, filter, flat_map, range_with_len}
-use Rattle.ultra_msg.specs.declared.Request.{Request}
-use Rattle.ultra_msg.specs.declared.ReplyMessage.{ReplyMessage}
-use Rattle.ultra_msg.specs.declared.Event.{Event}
-use Rattle.ultra_msg.specs.declared.Event.TheVariants.{Delivered, Served, Combined, Issued}
+use Rattle.ultra_msg.specs.declared.{Request.Request, ReplyMessage.ReplyMessage, Event.{Event, TheVariants.{Delivered, Served, Combined, Issued}}}
 use Rattle.ultra_pni.specs.Interface.{Interface}
 use Rattle.ultra_isa.specs.declared.Instr.{Instr}
 use Rattle.ultra_isa.proofs.Steps.{SendsInto, step_is}
-use Rattle.ultra_model.specs.Machine.{Settings, Element, size, site, element_at}
-use Rattle.ultra_model.specs.Places.{places, present}
-use Rattle.ultra_model.specs.Phases.{after, delivery, issue_event, step_at}
+use Rattle.ultra_model.specs.{Machine.{Settings, Element, size, site, element_at}, Places.{places, present}, Phases.{after, delivery, issue_event, step_at}}
 use Rattle.ultra_model.proofs.Each.{each-append, each-present, each-places, each-weaker}
-use Rattle.ultra_serial_law.specs.declared.records.LoggedIssue.{LoggedIssue}
-use Rattle.ultra_serial_law.specs.SerialList.{history, noted}
+use Rattle.ultra_serial_law.specs.{declared.records.LoggedIssue.LoggedIssue, SerialList.{history, noted}}
 use Rattle.ultra_serial_law.proofs.ProcessorForest.{issues_noted, noted_issues}
 use Rattle.ultra_latency.proofs.Rows.{IsNeutral}
 use Rattle.ultra_latency.proofs.CycleEvents.{brought, deliveries, others, issues, sent, requested, events_are, others_neutral}

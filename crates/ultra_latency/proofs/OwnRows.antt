@@ -1,12 +1,10 @@
 -- events of processing elements by number, each of which changes only its processing element's row
 use Rattle.std.proofs.Common.{ℕ, zero, suc, List, [], ◌∷◌, ◌++◌, ◌≡◌, ◌≢◌, ◌+◌, ◌<◌, ◌≤◌, ◌⊎◌, inl, inr, length, refl, sym, ap, ◌∙◌, subst, get_or-set_same, get_or-set_other, length-set, arith}
 use Rattle.std.proofs.lemmas.Bool.{cases_lt}
-use Rattle.std.specs.Prelude.{Option, Some, None, map, slice_set}
-use Rattle.std.specs.List.{range_with_len}
+use Rattle.std.specs.{Prelude.{Option, Some, None, map, slice_set}, List.range_with_len}
 use Rattle.ultra_msg.specs.declared.Event.{Event}
 use Rattle.ultra_model.specs.Places.{present}
-use Rattle.ultra_latency.specs.declared.open.OpenRequest.{OpenRequest}
-use Rattle.ultra_latency.specs.Open.{row, rows_with, rows_after, HasPlace, HavePlaces}
+use Rattle.ultra_latency.specs.{declared.open.OpenRequest.OpenRequest, Open.{row, rows_with, rows_after, HasPlace, HavePlaces}}
 
 still_out : (n a p : ℕ) → (p < a) ⊎ (a + suc n ≤ p) → (p < a + 1) ⊎ (a + 1 + n ≤ p)
 still_out n a p (inl low) = inl (omega arith)

@@ -2,28 +2,17 @@
 use Rattle.std.proofs.Common.{ℕ, List, [], ◌∷◌, ◌++◌, ◌≡◌, ◌+◌, ◌<◌, ◌≤◌, length, refl, sym, ap, ◌∙◌, subst, arith}
 use Rattle.std.proofs.lemmas.List.{length-map}
 use Rattle.std.specs.Prelude.{Option, Some, None, IfSome, map, slice_set}
-use Rattle.ultra_msg.specs.declared.Request.{Request}
-use Rattle.ultra_msg.specs.declared.ReplyMessage.{ReplyMessage}
-use Rattle.ultra_msg.specs.declared.Event.{Event}
-use Rattle.ultra_msg.specs.declared.Event.TheVariants.{Delivered, Served, Combined, Issued}
-use Rattle.ultra_pni.specs.declared.OpenCell.{OpenCell}
-use Rattle.ultra_pni.specs.Interface.{Interface}
+use Rattle.ultra_msg.specs.declared.{Request.Request, ReplyMessage.ReplyMessage, Event.{Event, TheVariants.{Delivered, Served, Combined, Issued}}}
+use Rattle.ultra_pni.specs.{declared.OpenCell.OpenCell, Interface.Interface}
 use Rattle.ultra_isa.specs.declared.Instr.{Instr}
 use Rattle.ultra_isa.proofs.Steps.{SendsInto}
-use Rattle.ultra_model.specs.Machine.{Settings, Element, size, site, element_at}
-use Rattle.ultra_model.specs.Places.{places}
+use Rattle.ultra_model.specs.{Machine.{Settings, Element, size, site, element_at}, Places.places, Ranges.AreInRange}
 use Rattle.ultra_model.specs.Phases.{after, delivery, deliver, issue_event, step_at, processor_phase}
-use Rattle.ultra_model.specs.Ranges.{AreInRange}
-use Rattle.ultra_model.proofs.Each.{places_at, length-places}
-use Rattle.ultra_model.proofs.AtPlaces.{element-reply_phase, element-memory_phase, element-request_phase, element-processor_phase}
+use Rattle.ultra_model.proofs.{Each.{places_at, length-places}, AtPlaces.{element-reply_phase, element-memory_phase, element-request_phase, element-processor_phase}}
 use Rattle.ultra_latency.specs.declared.open.OpenRequest.{OpenRequest}
 use Rattle.ultra_latency.specs.Open.{row, rows_with, rows_after, open_request, open_requests, open_rows, HasPlace, HavePlaces}
-use Rattle.ultra_latency.proofs.Rows.{rows_append, places_append, length_after, neutral_rows, neutral_places}
-use Rattle.ultra_latency.proofs.OwnRows.{those, inside, those_fit}
+use Rattle.ultra_latency.proofs.{Rows.{rows_append, places_append, length_after, neutral_rows, neutral_places}, OwnRows.{those, inside, those_fit}, Deliveries.{left_out, left_open, length_rows, row_is, brought_own}, OwnIssues.{next_number, sent_own, step_sends}, Issues.{put_in, put_new}}
 use Rattle.ultra_latency.proofs.CycleEvents.{before, replied, remembered, requested, brought, deliveries, others, issues, sent, next_is, events_are, others_neutral}
-use Rattle.ultra_latency.proofs.Deliveries.{left_out, left_open, length_rows, row_is, brought_own}
-use Rattle.ultra_latency.proofs.OwnIssues.{next_number, sent_own, step_sends}
-use Rattle.ultra_latency.proofs.Issues.{put_in, put_new}
 
 -- ---- one event, and its processing element's row
 delivered_own : (cycle p : ℕ) (o : Option ReplyMessage) → IfSome o (λ (r : ReplyMessage). r.pe ≡ p) → (e : Event) → delivery o ≡ Some e → (rows : List (List OpenRequest)) → rows_with cycle rows e ≡ slice_set rows p (left_out o (row rows p))

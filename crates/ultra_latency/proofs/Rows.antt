@@ -1,9 +1,7 @@
 -- the rows of open requests after several events, in order
 use Rattle.std.proofs.Common.{ℕ, ◌≡◌, ◌+◌, ◌<◌, List, [], ◌∷◌, ◌++◌, length, drop, drop-cons, add-one, get_or, refl, sym, ap, ◌∙◌, append_assoc, length-set, arith}
-use Rattle.std.specs.Prelude.{Option, option_to_list, slice_set}
-use Rattle.std.specs.List.{AllByRecursion}
-use Rattle.ultra_msg.specs.declared.Event.{Event}
-use Rattle.ultra_msg.specs.declared.Event.TheVariants.{Delivered, Served, Combined, Issued}
+use Rattle.std.specs.{Prelude.{Option, option_to_list, slice_set}, List.AllByRecursion}
+use Rattle.ultra_msg.specs.declared.Event.{Event, TheVariants.{Delivered, Served, Combined, Issued}}
 use Rattle.ultra_latency.specs.declared.open.OpenRequest.{OpenRequest}
 use Rattle.ultra_latency.specs.Open.{issued_request, without_request, row, rows_with, latency_at, HasPlace, rows_after, latencies_along, HavePlaces}
 

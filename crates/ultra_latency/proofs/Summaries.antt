@@ -1,10 +1,8 @@
 -- what is kept of latencies, and of one more
 use Rattle.std.proofs.Common.{ℕ, ◌≡◌, ◌+◌, List, [], ◌∷◌, ◌++◌, length, min, max, append-nil, length-append, refl, sym, ap, ◌∙◌, subst, arith}
-use Rattle.std.specs.Prelude.{Option, Some, None, sum, option_to_list}
-use Rattle.std.specs.List.{reduce, fold}
+use Rattle.std.specs.{Prelude.{Option, Some, None, sum, option_to_list}, List.{reduce, fold}}
 use Rattle.std.proofs.lemmas.List.Sums.{sum_by-append}
-use Rattle.ultra_latency.specs.declared.summary.Latencies.{Latencies}
-use Rattle.ultra_latency.specs.Summary.{AreSummedUp, lesser_of, greater_of}
+use Rattle.ultra_latency.specs.{declared.summary.Latencies.Latencies, Summary.{AreSummedUp, lesser_of, greater_of}}
 
 fold_last : (f : ℕ → ℕ → ℕ) (a : ℕ) (xs : List ℕ) (y : ℕ) → fold f a (xs ++ y ∷ []) ≡ f (fold f a xs) y
 fold_last f a [] y = refl

@@ -1,15 +1,10 @@
 -- how many cycles after their issues replies are delivered
 use Rattle.std.specs.Prelude.{ℕ, ◌+◌, ◌-◌, List, [], ◌∷◌, true, false}
 use Rattle.std.specs.List.{flat_map, range_with_len}
-use Rattle.ultra_msg.specs.declared.Op.TheVariants.{Load}
-use Rattle.ultra_msg.specs.declared.Event.{Event}
-use Rattle.ultra_msg.specs.declared.Event.TheVariants.{Delivered, Served, Combined, Issued}
+use Rattle.ultra_msg.specs.declared.{Op.TheVariants.Load, Event.{Event, TheVariants.{Delivered, Served, Combined, Issued}}}
 use Rattle.ultra_isa.specs.declared.Instr.{Instr}
-use Rattle.ultra_model.specs.Machine.{Settings}
-use Rattle.ultra_model.specs.Phases.{after}
-use Rattle.ultra_serial_law.specs.declared.records.LoggedIssue.{LoggedIssue}
-use Rattle.ultra_serial_law.specs.Log.{is_issue_for}
-use Rattle.ultra_serial_law.specs.SerialList.{history}
+use Rattle.ultra_model.specs.{Machine.Settings, Phases.after}
+use Rattle.ultra_serial_law.specs.{declared.records.LoggedIssue.LoggedIssue, Log.is_issue_for, SerialList.history}
 
 -- the latest issue of processing element p for cell a, or else i
 abbrev pub latest_among : ℕ → ℕ → List LoggedIssue → LoggedIssue → LoggedIssue

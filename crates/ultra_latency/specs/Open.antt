@@ -1,18 +1,10 @@
 -- the open requests, each with the cycle of its issue, as events change them
 use Rattle.std.specs.Prelude.{◌≡◌, ℕ, ◌+◌, ◌-◌, ◌<◌, ◌≤◌, List, [], ◌∷◌, ◌++◌, map, true, false, ◌==◌, length, Option, Some, None, slice_set, slice_index_or, vec_capacity}
-use Rattle.ultra_msg.specs.declared.Request.{Request}
-use Rattle.ultra_msg.specs.declared.Event.{Event}
-use Rattle.ultra_msg.specs.declared.Event.TheVariants.{Delivered, Served, Combined, Issued}
-use Rattle.ultra_pni.specs.declared.OpenCell.{OpenCell}
-use Rattle.ultra_pni.specs.declared.TheConstants.{MOST_OPEN}
+use Rattle.ultra_msg.specs.declared.{Request.Request, Event.{Event, TheVariants.{Delivered, Served, Combined, Issued}}}
+use Rattle.ultra_pni.specs.declared.{OpenCell.OpenCell, TheConstants.MOST_OPEN}
 use Rattle.ultra_isa.specs.declared.Instr.{Instr}
-use Rattle.ultra_model.specs.Machine.{Settings, size, element_at}
-use Rattle.ultra_model.specs.Phases.{after}
-use Rattle.ultra_model.specs.Places.{places}
-use Rattle.ultra_model.specs.Ranges.{AreInRange}
-use Rattle.ultra_latency.specs.declared.open.OpenRequest.{OpenRequest}
-use Rattle.ultra_latency.specs.declared.open.OpenTable.{OpenTable}
-use Rattle.ultra_latency.specs.Latency.{latest_issue, latencies_of}
+use Rattle.ultra_model.specs.{Machine.{Settings, size, element_at}, Phases.after, Places.places, Ranges.AreInRange}
+use Rattle.ultra_latency.specs.{declared.open.{OpenRequest.OpenRequest, OpenTable.OpenTable}, Latency.{latest_issue, latencies_of}}
 
 -- of one processing element: the first request for a cell, and the requests without it
 abbrev pub request_for : ℕ → List OpenRequest → Option OpenRequest

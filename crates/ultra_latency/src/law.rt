@@ -2,8 +2,7 @@
 
 ghost use Rattle.std.specs.Prelude.{ℕ, List};
 ghost use Rattle.ultra_isa.specs.declared.Instr.{Instr};
-ghost use Rattle.ultra_latency.specs.Few.{HasFewEvents};
-ghost use Rattle.ultra_latency.specs.Open.{IsOpenLaw};
+ghost use Rattle.ultra_latency.specs.{Few.HasFewEvents, Open.IsOpenLaw};
 
 use ultra_model::Config;
 

@@ -1,7 +1,6 @@
 -- the lines of a serial list, in order
 use Rattle.std.proofs.Common.{◌≡◌, ◌∙◌, ◌<◌, ◌+◌, ℕ, List, [], ◌∷◌, ◌++◌, take, length, get_or, ap, sym, append-nil}
-use Rattle.std.proofs.lemmas.List.{take_more}
-use Rattle.std.proofs.lemmas.Grind.{flat_map-append}
+use Rattle.std.proofs.lemmas.{List.take_more, Grind.flat_map-append}
 use Rattle.ultra_msg.specs.Bytes.{IsPrefix}
 use Rattle.ultra_serial_law.specs.declared.records.Entry.{Entry}
 use Rattle.ultra_list.specs.SerialText.{order_line, order_text}

@@ -1,20 +1,10 @@
 -- the reader of a line gives an entry exactly where the text begins with one
 use Rattle.std.proofs.Common.{◌≡◌, ℕ, ◌+◌, ◌<◌, ◌^◌, ◌⊎◌, Bool, true, false, not, ◌==◌, List, [], ◌∷◌, ◌++◌, length, take, drop, codes, decimal, Option, Some, None, cond, nat_le, refl, sym, ap, ◌∙◌, inl, inr, arith, subst, append_assoc, append-nil}
-use Rattle.std.specs.Prelude.{◌≢◌}
-use Rattle.std.specs.Int.{IsInRange}
-use Rattle.std.specs.List.{position_or_len}
-use Rattle.std.specs.Str.Parse.{AllDigits}
-use Rattle.std.proofs.Math.Seq.{take-append_seam, drop-append_seam}
-use Rattle.std.proofs.lemmas.List.{take-append-drop}
-use Rattle.std.proofs.lemmas.Bool.{and_from, ne_eqb, eq-eqb, eqb-true, le-leb}
-use Rattle.std.proofs.lemmas.Fmt.{decimal_is_IsNumeral}
-use Rattle.std.proofs.lemmas.Str.Parse.{digit_from_value}
-use Rattle.ultra_msg.specs.declared.Op.{Op}
-use Rattle.ultra_msg.specs.declared.Op.TheVariants.{Load, Store, Faa, Swap}
-use Rattle.ultra_msg.specs.declared.Reply.{Reply}
+use Rattle.std.specs.{Prelude.◌≢◌, Int.IsInRange, List.position_or_len, Str.Parse.AllDigits}
+use Rattle.std.proofs.{Math.Seq.{take-append_seam, drop-append_seam}, lemmas.{List.take-append-drop, Bool.{and_from, ne_eqb, eq-eqb, eqb-true, le-leb}, Fmt.decimal_is_IsNumeral, Str.Parse.digit_from_value}}
+use Rattle.ultra_msg.specs.declared.{Op.{Op, TheVariants.{Load, Store, Faa, Swap}}, Reply.Reply}
 use Rattle.ultra_msg.specs.declared.Reply.TheVariants as reply
-use Rattle.ultra_model.specs.Text.{reply_text}
-use Rattle.ultra_model.specs.Words.{OfWord, GivesWord}
+use Rattle.ultra_model.specs.{Text.reply_text, Words.{OfWord, GivesWord}}
 use Rattle.ultra_serial_law.specs.declared.records.Entry.{Entry}
 use Rattle.ultra_list.specs.SerialText.{operation_text, list_entry_text, HasWords, BeginsWith}
 use Rattle.ultra_list.specs.Reading.{read_on, read_or, rest_after, is_not_digit, number_at, numbers_at, load_at, words_at, operation_at, reply_at, end_at, entry_at}

@@ -3,8 +3,7 @@ use Rattle.std.proofs.Common.{◌≡◌, ℕ, ◌<◌, List, [], ◌∷◌, ◌+
 use Rattle.std.specs.Prelude.{◌≢◌, true, false, ◌==◌}
 use Rattle.std.proofs.lemmas.Bool.{true≢false, eqb-true}
 use Rattle.ultra_serial_law.specs.declared.records.Entry.{Entry}
-use Rattle.ultra_list.specs.SerialText.{list_entry_text, BeginsWith, BeginsWithAll, IsListText, IsFirstBadLine}
-use Rattle.ultra_list.specs.Reading.{entry_at}
+use Rattle.ultra_list.specs.{SerialText.{list_entry_text, BeginsWith, BeginsWithAll, IsListText, IsFirstBadLine}, Reading.entry_at}
 use Rattle.ultra_list.proofs.Exact.{some_same, none_some, line_complete}
 
 -- one line more

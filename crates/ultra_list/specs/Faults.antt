@@ -2,9 +2,7 @@
 use Rattle.std.specs.Prelude.{◌≡◌, ℕ, List, Result, Ok, Err}
 use Rattle.std.specs.Global.{Vec}
 use Rattle.ultra_serial_law.specs.declared.records.Entry.{Entry}
-use Rattle.ultra_list.specs.declared.ListFault.{ListFault}
-use Rattle.ultra_list.specs.declared.ListFault.TheVariants.{NoMemory, NotAnEntry}
-use Rattle.ultra_list.specs.SerialText.{IsFirstBadLine}
+use Rattle.ultra_list.specs.{declared.ListFault.{ListFault, TheVariants.{NoMemory, NotAnEntry}}, SerialText.IsFirstBadLine}
 
 abbrev pub ExplainsListFault : List ℕ → ListFault → Type 0
 ExplainsListFault text NoMemory = Unit {0}

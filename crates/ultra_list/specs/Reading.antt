@@ -1,9 +1,7 @@
 -- the parts of an entry at the start of a text, and the text after them
 use Rattle.std.specs.Prelude.{ℕ, Bool, not, ◌&&◌, ◌==◌, List, [], ◌∷◌, Option, Some, None, if◌then◌else◌, codes, drop, take, nat_le}
 use Rattle.std.specs.List.{position_or_len}
-use Rattle.ultra_msg.specs.declared.Op.{Op}
-use Rattle.ultra_msg.specs.declared.Op.TheVariants.{Load, Store, Faa, Swap}
-use Rattle.ultra_msg.specs.declared.Reply.{Reply}
+use Rattle.ultra_msg.specs.declared.{Op.{Op, TheVariants.{Load, Store, Faa, Swap}}, Reply.Reply}
 use Rattle.ultra_msg.specs.declared.Reply.TheVariants as reply
 use Rattle.ultra_serial_law.specs.declared.records.Entry.{Entry}
 use Rattle.ultra_io.specs.Decimal.{plain_number}

@@ -1,7 +1,6 @@
 //! The entry of a line at the start of a text.
 
-ghost use Rattle.std.specs.Prelude.{◌≡◌};
-ghost use Rattle.std.specs.Option.{option_map, option_copied};
+ghost use Rattle.std.specs.{Prelude.◌≡◌, Option.{option_map, option_copied}};
 ghost use Rattle.ultra_list.specs.Reading.{operation_at, reply_at, end_at, entry_at};
 
 use crate::number::{number_at, numbers_at, rest_after};

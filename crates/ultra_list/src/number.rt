@@ -1,8 +1,6 @@
 //! Numbers at the start of a text.
 
-ghost use Rattle.std.specs.Prelude.{◌≡◌, position};
-ghost use Rattle.std.specs.List.{position_or_len};
-ghost use Rattle.std.specs.Option.{option_map, option_copied};
+ghost use Rattle.std.specs.{Prelude.{◌≡◌, position}, List.position_or_len, Option.{option_map, option_copied}};
 ghost use Rattle.ultra_list.specs.Reading.{is_not_digit, number_at, numbers_at, rest_after};
 
 use ultra_io::plain_number;

@@ -2,7 +2,8 @@
 //! profile.
 
 ghost use Rattle.std.specs.Prelude.{◌≡◌, ◌-◌, ◌^◌, ◌<◌, ◌↔◌, true, false, IfOk, OnOk, IfErr};
-ghost use Rattle.ultra_model.specs.{Machine.start, Machine.is_quiet as quiet, Machine.lane_at, Machine.replies_at, Machine.module_at, Machine.element_at, Machine.site, Phases.cycle as next_cycle};
+ghost use Rattle.ultra_model.specs.Machine.{start, is_quiet as quiet, lane_at, replies_at, module_at, element_at, site};
+ghost use Rattle.ultra_model.specs.Phases.{cycle as next_cycle};
 ghost use Rattle.ultra_unit_steps.specs.Elements.{element_of};
 ghost use Rattle.ultra_block.specs.{Cut.is_partition, Dealt.IsLastNamed};
 ghost use Rattle.ultra_machine.specs.MachineState.{MachineState};

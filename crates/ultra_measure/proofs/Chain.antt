@@ -1,17 +1,11 @@
 -- measures that are written in order
 use Rattle.std.proofs.Common.{ℕ, ◌≡◌, ◌+◌, ◌<◌, List, [], ◌∷◌, ◌++◌, Bool, true, false, append-nil, append_assoc, refl, sym, ap, ◌∙◌, subst, nat_lt, arith}
-use Rattle.std.proofs.lemmas.Bool.Decides.{nat_tests}
-use Rattle.std.specs.Prelude.{Option, None}
-use Rattle.std.specs.List.{flat_map, range_with_len}
-use Rattle.std.proofs.lemmas.List.Concat.{flat_map-append}
-use Rattle.ultra_io.specs.declared.text_buffer.TextBuffer.{TextBuffer}
-use Rattle.ultra_io.specs.TextBuffer.{Writes}
+use Rattle.std.proofs.lemmas.{Bool.Decides.nat_tests, List.Concat.flat_map-append}
+use Rattle.std.specs.{Prelude.{Option, None}, List.{flat_map, range_with_len}}
+use Rattle.ultra_io.specs.{declared.text_buffer.TextBuffer.TextBuffer, TextBuffer.Writes}
 use Rattle.ultra_io.proofs.Writing.{◌then◌}
 use Rattle.ultra_holders.proofs.Skipped.{range_parts}
-use Rattle.ultra_measure.specs.declared.columns.Form.{Form}
-use Rattle.ultra_measure.specs.declared.columns.Form.TheVariants.{Lines, Values, JobValues}
-use Rattle.ultra_measure.specs.Columns.{Column, number}
-use Rattle.ultra_measure.specs.Rows.{column_text, columns_text, first_text, row_end, row_text}
+use Rattle.ultra_measure.specs.{declared.columns.Form.{Form, TheVariants.{Lines, Values, JobValues}}, Columns.{Column, number}, Rows.{column_text, columns_text, first_text, row_end, row_text}}
 
 -- of each form
 parts_of : (form : Form) (i : Column) (is : List Column) → first_text form i ++ columns_text form is ++ row_end form ≡ row_text form (i ∷ is)

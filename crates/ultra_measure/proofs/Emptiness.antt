@@ -1,18 +1,12 @@
 -- what a stage holds, by those of its switches that hold something
 use Rattle.std.proofs.Common.{ℕ, zero, suc, refl, ◌≡◌, ◌+◌, ◌-◌, ◌*◌, ◌^◌, ◌<◌, List, length, max, false, ap, sym, ◌∙◌, arith}
 use Rattle.std.proofs.lemmas.Bool.Decides.{nat_tests}
-use Rattle.ultra_model.specs.Machine.{Settings, Machine}
-use Rattle.ultra_model.specs.Balance.{total}
-use Rattle.ultra_topology.specs.Numbers.{switch_number}
-use Rattle.ultra_topology.specs.Set.{has_unit}
-use Rattle.ultra_block.specs.Held.{Held}
-use Rattle.ultra_block.specs.Held.TheVariants.{Reply, Request, Record}
-use Rattle.ultra_block.specs.{IsSetOf}
-use Rattle.ultra_block.specs.Holding.{holds}
+use Rattle.ultra_model.specs.{Machine.{Settings, Machine}, Balance.total}
+use Rattle.ultra_topology.specs.{Numbers.switch_number, Set.has_unit}
+use Rattle.ultra_block.specs.{Held.{Held, TheVariants.{Reply, Request, Record}}, IsSetOf, Holding.holds}
 use Rattle.ultra_block.proofs.NothingHeld.{no_replies, no_requests, no_records}
-use Rattle.ultra_measure.specs.Held.{held_at, full_at, is_full, wait_places_of}
+use Rattle.ultra_measure.specs.{Held.{held_at, full_at, is_full, wait_places_of}, Window.greatest}
 use Rattle.ultra_holders.specs.Holders.{numbers_in}
-use Rattle.ultra_measure.specs.Window.{greatest}
 use Rattle.ultra_measure.proofs.Gathered.{added, topmost, added_pairs, topmost_pairs}
 
 none_full : (places : ℕ) {held : ℕ} → held ≡ 0 → is_full places held ≡ 0

@@ -2,16 +2,11 @@
 use Rattle.std.proofs.Common.{ℕ, zero, suc, ◌≡◌, ◌+◌, ◌≤◌, ◌<◌, Bool, true, false, refl, sym, ◌∙◌, ap, subst, arith}
 use Rattle.std.proofs.lemmas.Bool.Decides.{nat_tests}
 use Rattle.std.specs.Prelude.{Option, Some, None, IsSome, is_some, ◌==◌, List}
-use Rattle.std.specs.List.{find, range_with_len}
-use Rattle.std.specs.Option.{unwrap_or}
+use Rattle.std.specs.{List.{find, range_with_len}, Option.unwrap_or}
 use Rattle.ultra_isa.specs.declared.Instr.{Instr}
-use Rattle.ultra_model.specs.Machine.{Settings, is_quiet}
-use Rattle.ultra_model.specs.Phases.{after}
-use Rattle.ultra_model.specs.Trace.{cycle_count, last_state}
+use Rattle.ultra_model.specs.{Machine.{Settings, is_quiet}, Phases.after, Trace.{cycle_count, last_state}}
 use Rattle.ultra_trace_alone.proofs.Count.{IsBusy, busy_more, count_quiet, count_limit}
-use Rattle.ultra_measure.specs.Columns.{ending, end_word}
-use Rattle.ultra_measure.specs.Rows.{ended_if}
-use Rattle.ultra_measure.specs.Texts.{end_if}
+use Rattle.ultra_measure.specs.{Columns.{ending, end_word}, Rows.ended_if, Texts.end_if}
 
 -- where none of the first is found, one is found behind them
 found_beyond : (test : ℕ → Bool) (a n b k : ℕ) → k ≤ b → k ≤ a + n → ((j : ℕ) → a ≤ j → j < k → test j ≡ false) → k ≤ unwrap_or (find test (range_with_len a n)) b

@@ -1,16 +1,11 @@
 -- the requests that wait in interfaces, by those that hold some
 use Rattle.std.proofs.Common.{ℕ, ◌≡◌, ◌+◌, ◌^◌, ◌<◌, List, length, false, sym, ap, ◌∙◌, arith}
-use Rattle.ultra_model.specs.Machine.{Machine}
-use Rattle.ultra_model.specs.Balance.{total}
-use Rattle.ultra_topology.specs.Numbers.{element_number}
-use Rattle.ultra_topology.specs.Set.{has_unit}
-use Rattle.ultra_block.specs.Held.TheVariants.{Request}
-use Rattle.ultra_block.specs.{IsSetOf}
-use Rattle.ultra_block.specs.Holding.{holds}
+use Rattle.ultra_model.specs.{Machine.Machine, Balance.total}
+use Rattle.ultra_topology.specs.{Numbers.element_number, Set.has_unit}
+use Rattle.ultra_block.specs.{Held.TheVariants.Request, IsSetOf, Holding.holds}
 use Rattle.ultra_block.proofs.NothingHeld.{none_pending}
-use Rattle.ultra_measure.specs.Held.{pending}
+use Rattle.ultra_measure.specs.{Held.pending, Window.greatest}
 use Rattle.ultra_holders.specs.Holders.{numbers_in}
-use Rattle.ultra_measure.specs.Window.{greatest}
 use Rattle.ultra_measure.proofs.Gathered.{added, topmost, added_singly, topmost_singly}
 
 module _ (d : ℕ) (m : Machine) (units : List ℕ) (are : IsSetOf (holds d m Request) units) where

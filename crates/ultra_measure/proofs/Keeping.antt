@@ -1,11 +1,8 @@
 -- what a window keeps: at its start, and by one cycle more
 use Rattle.std.proofs.Common.{ℕ, zero, suc, List, ◌≡◌, ◌+◌, ◌-◌, ◌*◌, ◌^◌, ◌<◌, ◌≤◌, max, get_or, replicate, refl, sym, ap, ◌∙◌, arith}
 use Rattle.ultra_isa.specs.declared.Instr.{Instr}
-use Rattle.ultra_model.specs.Machine.{Settings, Machine}
-use Rattle.ultra_model.specs.Phases.{after}
-use Rattle.ultra_model.specs.Balance.{total}
-use Rattle.ultra_measure.specs.Window.{greatest, most_of}
-use Rattle.ultra_measure.specs.Kept.{IsSum}
+use Rattle.ultra_model.specs.{Machine.{Settings, Machine}, Phases.after, Balance.total}
+use Rattle.ultra_measure.specs.{Window.{greatest, most_of}, Kept.IsSum}
 use Rattle.ultra_measure.proofs.More.{no_total, no_greatest, sum_more, most_more}
 
 pub zeros : (n k d : ℕ) → d ≡ 0 → get_or (replicate n d) k d ≡ d

@@ -1,23 +1,13 @@
 -- which processing elements are known
 use Rattle.std.proofs.Common.{ℕ, ◌≡◌, ◌≢◌, ◌+◌, ◌/◌, ◌%◌, ◌<◌, ◌≤◌, List, [], Bool, true, false, ◌==◌, ◌||◌, ◌&&◌, not, nat_lt, take, length, get_or, refl, sym, ap, ◌∙◌, subst, inl, inr, arith}
-use Rattle.std.proofs.lemmas.Bool.{cases_eq, cases_lt}
-use Rattle.std.proofs.lemmas.Bool.Decides.{nat_tests}
+use Rattle.std.proofs.lemmas.Bool.{cases_eq, cases_lt, Decides.nat_tests}
 use Rattle.ultra_msg.specs.declared.Event.{Event}
-use Rattle.ultra_isa.specs.declared.Instr.{Instr}
-use Rattle.ultra_isa.specs.Step.{has_stopped, is_stall}
-use Rattle.ultra_model.specs.Machine.{Settings, Machine, size, element_at}
-use Rattle.ultra_model.specs.Phases.{after, step_at}
-use Rattle.ultra_model.specs.Ranges.{AreInRange}
-use Rattle.ultra_model.specs.Balance.{count, total, weight}
+use Rattle.ultra_isa.specs.{declared.Instr.Instr, Step.{has_stopped, is_stall}}
+use Rattle.ultra_model.specs.{Machine.{Settings, Machine, size, element_at}, Phases.{after, step_at}, Ranges.AreInRange, Balance.{count, total, weight}}
 use Rattle.ultra_topology.specs.Set.{has_bit}
-use Rattle.ultra_measure.specs.declared.element_states.ElementStates.{ElementStates}
-use Rattle.ultra_measure.specs.Held.{running, stalled, opened}
-use Rattle.ultra_measure.specs.EventKinds.{is_delivery_to}
-use Rattle.ultra_measure.specs.PeSet.{IsTaken}
+use Rattle.ultra_measure.specs.{declared.element_states.ElementStates.ElementStates, Held.{running, stalled, opened}, EventKinds.is_delivery_to, PeSet.IsTaken}
 use Rattle.ultra_measure.specs.ElementStates.{is_awake, is_resting, state_number, three_in_one, IsKnown, AreKnownBut, AreKnown, AreSeen, AreAnswered, AreBelow, IsSameAt}
-use Rattle.ultra_measure.proofs.Events.{count_more}
-use Rattle.ultra_measure.proofs.Resting.{still_rests, same_running, same_stalled, same_opened}
-use Rattle.ultra_measure.proofs.Tallies.{total_beyond, total_three, three_are, total_small}
+use Rattle.ultra_measure.proofs.{Events.count_more, Resting.{still_rests, same_running, same_stalled, same_opened}, Tallies.{total_beyond, total_three, three_are, total_small}}
 
 pub both_false : (a b : Bool) → (a || b) ≡ false → (a ≡ false) × (b ≡ false)
 both_false true b h = cc

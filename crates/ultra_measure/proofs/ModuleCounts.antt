@@ -1,16 +1,11 @@
 -- how many modules hold something: as many as are in the set of those that do
 use Rattle.std.proofs.Common.{ℕ, zero, suc, ◌≡◌, ◌+◌, ◌^◌, ◌<◌, List, Bool, true, false, length, refl, sym, ◌∙◌, ap, arith}
 use Rattle.std.specs.List.{filter, range_with_len}
-use Rattle.ultra_topology.specs.Numbers.{module_number}
-use Rattle.ultra_topology.specs.Set.{has_unit}
-use Rattle.ultra_topology.specs.Units.{of_unit}
+use Rattle.ultra_topology.specs.{Numbers.module_number, Set.has_unit, Units.of_unit}
 use Rattle.ultra_topology.proofs.Standing.{unit_of_module}
-use Rattle.ultra_model.specs.Machine.{Machine, module_at}
-use Rattle.ultra_model.specs.Balance.{total, weight}
+use Rattle.ultra_model.specs.{Machine.{Machine, module_at}, Balance.{total, weight}}
 use Rattle.ultra_model.proofs.Sums.{total_none, total_front, total_same}
-use Rattle.ultra_block.specs.{IsSetOf}
-use Rattle.ultra_block.specs.Held.{Held}
-use Rattle.ultra_block.specs.Holding.{holds}
+use Rattle.ultra_block.specs.{IsSetOf, Held.Held, Holding.holds}
 use Rattle.ultra_holders.specs.Holders.{numbers_in}
 use Rattle.ultra_block_core.specs.Holding.{module_holds}
 use Rattle.ultra_measure.specs.Held.{held_in_module}

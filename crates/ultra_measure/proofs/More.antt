@@ -1,9 +1,7 @@
 -- a sum and a most of one number more, and of a window of one cycle more
 use Rattle.std.proofs.Common.{ℕ, zero, suc, List, ◌≡◌, ◌+◌, ◌-◌, ◌≤◌, ◌<◌, max, refl, ap, ◌∙◌, add-one, arith}
 use Rattle.ultra_isa.specs.declared.Instr.{Instr}
-use Rattle.ultra_model.specs.Machine.{Settings, Machine}
-use Rattle.ultra_model.specs.Phases.{after}
-use Rattle.ultra_model.specs.Balance.{total}
+use Rattle.ultra_model.specs.{Machine.{Settings, Machine}, Phases.after, Balance.total}
 use Rattle.ultra_measure.specs.Window.{greatest, sum_of, most_of}
 
 pub no_total : (f : ℕ → ℕ) → total 0 f ≡ 0

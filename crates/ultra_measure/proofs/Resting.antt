@@ -1,34 +1,22 @@
 -- a processing element that rests is left as it is by a cycle in which no reply comes to it
 use Rattle.std.proofs.Common.{ℕ, zero, suc, List, ◌∷◌, ◌++◌, ◌≡◌, ◌+◌, ◌<◌, ◌≤◌, Bool, true, false, ◌||◌, ◌==◌, not, length, refl, sym, ap, ◌∙◌, subst, ⊎_elim, arith}
-use Rattle.std.proofs.lemmas.Bool.{cases_lt}
-use Rattle.std.proofs.lemmas.Bool.Decides.{nat_tests}
+use Rattle.std.proofs.lemmas.Bool.{cases_lt, Decides.nat_tests}
 use Rattle.std.specs.Prelude.{Option, Some, None, IfSome, map, nat_lt, slice_get}
 use Rattle.std.specs.List.{range_with_len}
-use Rattle.ultra_msg.specs.declared.Request.{Request}
-use Rattle.ultra_msg.specs.declared.ReplyMessage.{ReplyMessage}
-use Rattle.ultra_msg.specs.declared.Event.{Event}
-use Rattle.ultra_pni.specs.declared.OpenCell.{OpenCell}
-use Rattle.ultra_pni.specs.Interface.{Interface, issue_of}
-use Rattle.ultra_isa.specs.declared.Instr.{Instr}
+use Rattle.ultra_msg.specs.declared.{Request.Request, ReplyMessage.ReplyMessage, Event.Event}
+use Rattle.ultra_pni.specs.{declared.{OpenCell.OpenCell, Issue.{Issue, TheVariants.{Sent, CellOpen, Full}}}, Interface.{Interface, issue_of}}
+use Rattle.ultra_isa.specs.declared.{Instr.Instr, Activity.Activity}
 use Rattle.ultra_isa.specs.Instruction.{Site, Effect, sets, goes_on_at, refers, waits, halts, effect}
-use Rattle.ultra_isa.specs.declared.Activity.{Activity}
 use Rattle.ultra_isa.specs.declared.Activity.TheVariants as activity
-use Rattle.ultra_pni.specs.declared.Issue.{Issue}
-use Rattle.ultra_pni.specs.declared.Issue.TheVariants.{Sent, CellOpen, Full}
 use Rattle.ultra_isa.specs.Step.{Core, StepResult, does, has_stopped, is_stall, names_awaited, refers_as, refers_where, runs, runs_as, runs_where, step_of, waits_where}
 use Rattle.ultra_model.specs.Machine.{Settings, Machine, Element, size, site, element_at}
-use Rattle.ultra_model.specs.Places.{places, present}
+use Rattle.ultra_model.specs.{Places.{places, present}, Ranges.AreInRange, Balance.{count, weight}}
 use Rattle.ultra_model.specs.Phases.{after, delivery, arriving_request, stepped, without_pending, deliver, step_at}
-use Rattle.ultra_model.specs.Ranges.{AreInRange}
-use Rattle.ultra_model.specs.Balance.{count, weight}
-use Rattle.ultra_model.proofs.AtPlaces.{element-reply_phase, element-memory_phase, element-request_phase, element-processor_phase}
-use Rattle.ultra_model.proofs.Counting.{count-append}
+use Rattle.ultra_model.proofs.{AtPlaces.{element-reply_phase, element-memory_phase, element-request_phase, element-processor_phase}, Counting.count-append}
 use Rattle.ultra_route.specs.Route.{shuffled}
 use Rattle.ultra_latency.proofs.CycleEvents.{before, replied, remembered, requested, brought, deliveries, others, issues, next_is, events_are}
 use Rattle.ultra_latency.proofs.Deliveries.{brought_own}
-use Rattle.ultra_measure.specs.Held.{running, stalled, opened}
-use Rattle.ultra_measure.specs.EventKinds.{is_delivery_to}
-use Rattle.ultra_measure.specs.ElementStates.{is_resting}
+use Rattle.ultra_measure.specs.{Held.{running, stalled, opened}, EventKinds.is_delivery_to, ElementStates.is_resting}
 
 -- ---- one step, whatever requests wait
 module _ (s : Site) (most_open : ℕ) (program : List Instr) (c : Core) (os : List OpenCell) where

@@ -2,21 +2,11 @@
 use Rattle.std.proofs.Common.{ℕ, List, [], ◌≡◌, ◌+◌, ◌-◌, ◌^◌, ◌*◌, ◌<◌, ◌≤◌, Bool, false, max, filter, suc, zero, refl, sym, ap, ◌∙◌, arith}
 use Rattle.std.specs.List.{range_with_len}
 use Rattle.ultra_isa.specs.declared.Instr.{Instr}
-use Rattle.ultra_model.specs.Machine.{Settings, Machine, size}
-use Rattle.ultra_model.specs.Phases.{after}
-use Rattle.ultra_model.specs.Balance.{total}
-use Rattle.ultra_topology.specs.Numbers.{switch_number}
-use Rattle.ultra_topology.specs.Set.{has_unit, HasNoneFrom}
-use Rattle.ultra_block.specs.Held.{Held}
-use Rattle.ultra_block.specs.{IsSetOf}
-use Rattle.ultra_block.specs.Holding.{holds}
-use Rattle.ultra_measure.specs.Held.{held_at, full_at}
-use Rattle.ultra_measure.specs.Kept.{AreDepths, AreWithState}
-use Rattle.ultra_measure.specs.Window.{greatest}
-use Rattle.ultra_measure.specs.declared.depths.Depths.{Depths}
-use Rattle.ultra_measure.proofs.Gathered.{added, topmost}
-use Rattle.ultra_measure.proofs.Emptiness.{stage_sum, stage_most, stage_full}
-use Rattle.ultra_measure.proofs.Keeping.{sum_goes_on, most_goes_on, small_goes_on}
+use Rattle.ultra_model.specs.{Machine.{Settings, Machine, size}, Phases.after, Balance.total}
+use Rattle.ultra_topology.specs.{Numbers.switch_number, Set.{has_unit, HasNoneFrom}}
+use Rattle.ultra_block.specs.{Held.Held, IsSetOf, Holding.holds}
+use Rattle.ultra_measure.specs.{Held.{held_at, full_at}, Kept.{AreDepths, AreWithState}, Window.greatest, declared.depths.Depths.Depths}
+use Rattle.ultra_measure.proofs.{Gathered.{added, topmost}, Emptiness.{stage_sum, stage_most, stage_full}, Keeping.{sum_goes_on, most_goes_on, small_goes_on}}
 
 module _ (c : Settings) (program : List Instr) (from to : ℕ) (order : from ≤ to) (m : Machine) (run : m ≡ after c program (to + 1)) (held : Held) where
   pub depths_go_on : (old new : Depths) → c.stages ≤ 6 → AreDepths c program from to held old → AreWithState c m held old new → AreDepths c program from (to + 1) held new

@@ -4,14 +4,9 @@ use Rattle.std.specs.List.{flat_map, range_with_len}
 use Rattle.std.proofs.lemmas.List.Concat.{flat_map-append}
 use Rattle.ultra_msg.specs.declared.Event.{Event}
 use Rattle.ultra_isa.specs.declared.Instr.{Instr}
-use Rattle.ultra_model.specs.Machine.{Settings}
-use Rattle.ultra_model.specs.Phases.{after}
+use Rattle.ultra_model.specs.{Machine.Settings, Phases.after}
 use Rattle.ultra_holders.proofs.Skipped.{range_parts}
-use Rattle.ultra_latency.specs.Latency.{latencies, latencies_of}
-use Rattle.ultra_latency.specs.declared.open.OpenRequest.{OpenRequest}
-use Rattle.ultra_latency.specs.Open.{IsOpenLaw, HavePlaces, open_rows, rows_after, latencies_along}
-use Rattle.ultra_latency.specs.Summary.{AreSummedUp, AreSmall}
-use Rattle.ultra_latency.specs.declared.summary.Latencies.{Latencies}
+use Rattle.ultra_latency.specs.{Latency.{latencies, latencies_of}, declared.{open.OpenRequest.OpenRequest, summary.Latencies.Latencies}, Open.{IsOpenLaw, HavePlaces, open_rows, rows_after, latencies_along}, Summary.{AreSummedUp, AreSmall}}
 use Rattle.ultra_measure.specs.Kept.{AreLatencies}
 
 module _ (c : Settings) (program : List Instr) (from : ℕ) where

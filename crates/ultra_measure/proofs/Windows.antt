@@ -1,34 +1,17 @@
 -- a run, window by window
 use Rattle.std.proofs.Common.{ℕ, zero, suc, ◌≡◌, ◌+◌, ◌*◌, ◌-◌, ◌≤◌, ◌<◌, Bool, true, List, ◌++◌, refl, sym, ◌∙◌, ap, subst, min, append-nil, arith}
-use Rattle.std.specs.Prelude.{None, IsSome}
-use Rattle.std.specs.List.{find, range_with_len}
-use Rattle.std.specs.Option.{unwrap_or}
-use Rattle.std.specs.Fmt.{digits}
-use Rattle.std.proofs.Math.Nat.{div-eq_of_lt-le}
-use Rattle.std.proofs.lemmas.Nat.{le-div}
+use Rattle.std.specs.{Prelude.{None, IsSome}, List.{find, range_with_len}, Option.unwrap_or, Fmt.digits}
+use Rattle.std.proofs.{Math.Nat.div-eq_of_lt-le, lemmas.Nat.le-div}
 use Rattle.ultra_isa.specs.declared.Instr.{Instr}
-use Rattle.ultra_io.specs.declared.text_buffer.TextBuffer.{TextBuffer}
-use Rattle.ultra_io.specs.TextBuffer.{Writes}
+use Rattle.ultra_io.specs.{declared.text_buffer.TextBuffer.TextBuffer, TextBuffer.Writes}
 use Rattle.ultra_io.proofs.Writing.{writes_failed}
-use Rattle.ultra_model.specs.Machine.{Settings, is_quiet, start}
-use Rattle.ultra_model.specs.Phases.{after, cycle}
-use Rattle.ultra_model.specs.Trace.{by_number, cycle_count}
+use Rattle.ultra_model.specs.{Machine.{Settings, is_quiet, start}, Phases.{after, cycle}, Trace.{by_number, cycle_count}}
 use Rattle.ultra_block.specs.State.{BlocksState}
-use Rattle.ultra_latency.specs.declared.open.OpenTable.{OpenTable}
-use Rattle.ultra_latency.specs.Open.{IsOpenTable}
+use Rattle.ultra_latency.specs.{declared.open.OpenTable.OpenTable, Open.IsOpenTable}
 use Rattle.ultra_trace_alone.specs.BlocksAfter.{IsAfter}
 use Rattle.ultra_trace_alone.proofs.Count.{after_none, busy_none, next_after, quiet_after, first_lines}
 use Rattle.ultra_trace_text.proofs.Numbered.{writes_number}
-use Rattle.ultra_measure.specs.declared.window.Window.{Window}
-use Rattle.ultra_measure.specs.declared.columns.Form.{Form}
-use Rattle.ultra_measure.specs.declared.columns.Form.TheVariants.{Lines, Values, JobValues}
-use Rattle.ultra_measure.specs.declared.measuring.Layout.{Layout}
-use Rattle.ultra_measure.specs.declared.measuring.WindowRun.{WindowRun}
-use Rattle.ultra_measure.specs.Columns.{measures, ending}
-use Rattle.ultra_measure.specs.Kept.{IsAfterCycle, IsKept}
-use Rattle.ultra_measure.specs.Nets.{IsNetOf}
-use Rattle.ultra_measure.specs.Rows.{row_text, ended_if}
-use Rattle.ultra_measure.specs.Running.{AreAfter, IsOn, IsWindowRun}
+use Rattle.ultra_measure.specs.{declared.{window.Window.Window, columns.Form.{Form, TheVariants.{Lines, Values, JobValues}}, measuring.{Layout.Layout, WindowRun.WindowRun}}, Columns.{measures, ending}, Kept.{IsAfterCycle, IsKept}, Nets.IsNetOf, Rows.{row_text, ended_if}, Running.{AreAfter, IsOn, IsWindowRun}}
 use Rattle.ultra_measure.specs.Texts.{all_names, window_of, window_count, job_rows, measure_lines, measure_table, measure_text, measured, names_line}
 use Rattle.ultra_measure.proofs.Ends.{count_beyond}
 

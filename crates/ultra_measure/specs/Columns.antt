@@ -2,9 +2,7 @@
 use Rattle.std.specs.Prelude.{ℕ, zero, suc, ◌*◌, ◌/◌, ◌%◌, List, [], ◌∷◌, ◌++◌, Bool, true, false, ◌==◌, nat_lt, length, min, max, sum, Option, Some, None, codes, decimal}
 use Rattle.std.specs.List.{reduce, flat_map, range_with_len}
 use Rattle.ultra_isa.specs.declared.Instr.{Instr}
-use Rattle.ultra_model.specs.Machine.{Settings, Machine, size, is_quiet}
-use Rattle.ultra_model.specs.Balance.{total}
-use Rattle.ultra_model.specs.Trace.{cycle_count, last_state}
+use Rattle.ultra_model.specs.{Machine.{Settings, Machine, size, is_quiet}, Balance.total, Trace.{cycle_count, last_state}}
 use Rattle.ultra_latency.specs.Latency.{latencies}
 use Rattle.ultra_measure.specs.Window.{greatest, sum_of, most_of, event_count}
 use Rattle.ultra_measure.specs.EventKinds.{is_issue, is_delivery, is_act, is_act_of, is_combination, is_combination_in}

@@ -1,15 +1,10 @@
 -- what is known of the processing elements of a machine, as they were last looked at
 use Rattle.std.specs.Prelude.{◌≡◌, ℕ, ◌+◌, ◌*◌, ◌<◌, ◌≤◌, List, Bool, false, true, ◌||◌, slice_index}
 use Rattle.ultra_msg.specs.declared.Event.{Event}
-use Rattle.ultra_isa.specs.declared.Instr.{Instr}
-use Rattle.ultra_isa.specs.Step.{has_stopped, is_stall}
-use Rattle.ultra_model.specs.Machine.{Settings, Machine, size, element_at}
-use Rattle.ultra_model.specs.Phases.{step_at}
-use Rattle.ultra_model.specs.Balance.{count}
+use Rattle.ultra_isa.specs.{declared.Instr.Instr, Step.{has_stopped, is_stall}}
+use Rattle.ultra_model.specs.{Machine.{Settings, Machine, size, element_at}, Phases.step_at, Balance.count}
 use Rattle.ultra_topology.specs.Set.{has_bit}
-use Rattle.ultra_measure.specs.declared.element_states.ElementStates.{ElementStates}
-use Rattle.ultra_measure.specs.EventKinds.{is_delivery_to}
-use Rattle.ultra_measure.specs.Held.{running, stalled, opened}
+use Rattle.ultra_measure.specs.{declared.element_states.ElementStates.ElementStates, EventKinds.is_delivery_to, Held.{running, stalled, opened}}
 
 -- three numbers in one, of which the first two are below 256
 abbrev pub three_in_one : ℕ → ℕ → ℕ → ℕ

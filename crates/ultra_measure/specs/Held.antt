@@ -1,17 +1,11 @@
 -- what a machine holds, as numbers: for each a value by the number of a processing element, a
 -- module or a position
 use Rattle.std.specs.Prelude.{ℕ, List, not, length, ◌&&◌, ◌==◌, nat_lt}
-use Rattle.ultra_isa.specs.declared.Instr.{Instr}
-use Rattle.ultra_isa.specs.Step.{has_stopped, is_stall}
+use Rattle.ultra_isa.specs.{declared.Instr.Instr, Step.{has_stopped, is_stall}}
 use Rattle.ultra_model.specs.Machine.{Settings, Machine, lane_at, replies_at, module_at, element_at}
-use Rattle.ultra_model.specs.Phases.{step_at}
-use Rattle.ultra_model.specs.Balance.{weight}
-use Rattle.ultra_block.specs.{IsSetOf}
+use Rattle.ultra_model.specs.{Phases.step_at, Balance.weight}
+use Rattle.ultra_block.specs.{IsSetOf, Held.{Held, TheVariants.{Reply, Request, Record}}, Holding.holds, State.BlocksState}
 use Rattle.ultra_block_core.specs.Holding.{module_holds}
-use Rattle.ultra_block.specs.Held.{Held}
-use Rattle.ultra_block.specs.Held.TheVariants.{Reply, Request, Record}
-use Rattle.ultra_block.specs.Holding.{holds}
-use Rattle.ultra_block.specs.State.{BlocksState}
 
 abbrev pub running : Machine → ℕ → ℕ
 running m p = weight (not (has_stopped (element_at m p).core.activity))

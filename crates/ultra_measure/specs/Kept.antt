@@ -1,22 +1,11 @@
 -- what a window keeps while a run goes on: its numbers over the cycles from `from` on, below `to`
 use Rattle.std.specs.Prelude.{◌≡◌, ℕ, ◌-◌, ◌+◌, ◌*◌, ◌^◌, ◌<◌, ◌≤◌, List, length, max, slice_index}
 use Rattle.ultra_isa.specs.declared.Instr.{Instr}
-use Rattle.ultra_model.specs.Machine.{Settings, Machine, size}
-use Rattle.ultra_model.specs.Phases.{after}
-use Rattle.ultra_model.specs.Balance.{count, total}
-use Rattle.ultra_block.specs.Held.{Held}
-use Rattle.ultra_block.specs.Held.TheVariants.{Reply, Request, Record}
-use Rattle.ultra_block.specs.State.{BlocksState}
-use Rattle.ultra_latency.specs.Latency.{latencies}
-use Rattle.ultra_latency.specs.Summary.{AreSummedUp, AreSmall}
-use Rattle.ultra_latency.specs.declared.summary.Latencies.{Latencies}
-use Rattle.ultra_measure.specs.declared.depths.Depths.{Depths}
-use Rattle.ultra_measure.specs.declared.elements.ElementSums.{ElementSums}
-use Rattle.ultra_measure.specs.declared.event_sums.EventSums.{EventSums}
-use Rattle.ultra_measure.specs.declared.window.Window.{Window}
-use Rattle.ultra_measure.specs.Window.{sum_of, most_of, greatest}
+use Rattle.ultra_model.specs.{Machine.{Settings, Machine, size}, Phases.after, Balance.{count, total}}
+use Rattle.ultra_block.specs.{Held.{Held, TheVariants.{Reply, Request, Record}}, State.BlocksState}
+use Rattle.ultra_latency.specs.{Latency.latencies, Summary.{AreSummedUp, AreSmall}, declared.summary.Latencies.Latencies}
+use Rattle.ultra_measure.specs.{declared.{depths.Depths.Depths, elements.ElementSums.ElementSums, event_sums.EventSums.EventSums, window.Window.Window}, Window.{sum_of, most_of, greatest}, ElementStates.AreSeen}
 use Rattle.ultra_measure.specs.EventKinds.{is_issue, is_delivery, is_act, is_act_of, is_combination, is_combination_in}
-use Rattle.ultra_measure.specs.ElementStates.{AreSeen}
 use Rattle.ultra_measure.specs.Held.{held_at, full_at, running, stalled, opened, pending, waiting_in, waiting_out}
 
 module _ (c : Settings) (program : List Instr) (from to : ℕ) where

@@ -2,12 +2,7 @@
 use Rattle.std.specs.Prelude.{ℕ, List, [], ◌++◌, Bool, Option, Some, None, codes, decimal}
 use Rattle.std.specs.List.{flat_map}
 use Rattle.ultra_model.specs.Text.{newline}
-use Rattle.ultra_measure.specs.declared.columns.Form.{Form}
-use Rattle.ultra_measure.specs.declared.columns.Form.TheVariants.{Lines, Values, JobValues}
-use Rattle.ultra_measure.specs.declared.columns.Value.{Value}
-use Rattle.ultra_measure.specs.declared.columns.Value.TheVariants.{Number, Thousandths, Ended}
-use Rattle.ultra_measure.specs.Columns.{Column, of_stage, thousandths_text, end_word}
-use Rattle.ultra_measure.specs.Texts.{line_if, text_if, measure_lines, values_line, job_values_line}
+use Rattle.ultra_measure.specs.{declared.columns.{Form.{Form, TheVariants.{Lines, Values, JobValues}}, Value.{Value, TheVariants.{Number, Thousandths, Ended}}}, Columns.{Column, of_stage, thousandths_text, end_word}, Texts.{line_if, text_if, measure_lines, values_line, job_values_line}}
 
 -- the text of a value, where there is one
 abbrev pub value_text : Value → List ℕ

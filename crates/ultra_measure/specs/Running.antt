@@ -1,17 +1,11 @@
 -- a run in its course, window by window
 use Rattle.std.specs.Prelude.{◌≡◌, ℕ, ◌+◌, ◌<◌, ◌≤◌, List, false, min, None, IsSome}
 use Rattle.ultra_isa.specs.declared.Instr.{Instr}
-use Rattle.ultra_model.specs.Machine.{Settings, is_quiet}
-use Rattle.ultra_model.specs.Phases.{after}
-use Rattle.ultra_model.specs.Trace.{cycle_count}
+use Rattle.ultra_model.specs.{Machine.{Settings, is_quiet}, Phases.after, Trace.cycle_count}
 use Rattle.ultra_block.specs.State.{BlocksState}
-use Rattle.ultra_latency.specs.declared.open.OpenTable.{OpenTable}
-use Rattle.ultra_latency.specs.Open.{IsOpenTable}
+use Rattle.ultra_latency.specs.{declared.open.OpenTable.OpenTable, Open.IsOpenTable}
 use Rattle.ultra_trace_alone.specs.BlocksAfter.{IsAfter}
-use Rattle.ultra_measure.specs.declared.measuring.WindowRun.{WindowRun}
-use Rattle.ultra_measure.specs.Columns.{ending}
-use Rattle.ultra_measure.specs.Kept.{IsKept}
-use Rattle.ultra_measure.specs.Rows.{ended_if}
+use Rattle.ultra_measure.specs.{declared.measuring.WindowRun.WindowRun, Columns.ending, Kept.IsKept, Rows.ended_if}
 
 module _ (c : Settings) (program : List Instr) where
   -- a machine in one block, and the table of the open requests, after n cycles

@@ -2,12 +2,8 @@
 use Rattle.std.specs.Prelude.{ℕ, ◌+◌, ◌-◌, ◌*◌, ◌/◌, ◌≤◌, List, [], ◌∷◌, ◌++◌, Bool, true, false, min, Option, Some, None, codes, decimal}
 use Rattle.std.specs.List.{flat_map, join_by, range_with_len}
 use Rattle.ultra_isa.specs.declared.Instr.{Instr}
-use Rattle.ultra_model.specs.Machine.{Settings}
-use Rattle.ultra_model.specs.Text.{newline}
-use Rattle.ultra_model.specs.Trace.{by_number, cycle_count}
-use Rattle.ultra_measure.specs.declared.measuring.Layout.{Layout}
-use Rattle.ultra_measure.specs.declared.measuring.Layout.TheVariants.{Lines, Table, JobRows}
-use Rattle.ultra_measure.specs.Columns.{Column, of_stage, measures}
+use Rattle.ultra_model.specs.{Machine.Settings, Text.newline, Trace.{by_number, cycle_count}}
+use Rattle.ultra_measure.specs.{declared.measuring.Layout.{Layout, TheVariants.{Lines, Table, JobRows}}, Columns.{Column, of_stage, measures}}
 
 -- a line for each measure that has a value
 abbrev pub line_if : List ℕ → Option (List ℕ) → List ℕ

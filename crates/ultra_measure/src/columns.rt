@@ -7,10 +7,8 @@ ghost use Rattle.std.specs.List.{flat_map, range_with_len};
 ghost use Rattle.ultra_io.specs.TextBuffer.{Writes};
 ghost use Rattle.ultra_latency.specs.Summary.{AreSmall};
 ghost use Rattle.ultra_measure.specs.Columns.{event_columns, mean_if, measures, number, number_if, of_stage, setting_columns, stage_columns, state_columns, thousandths_text, ending};
-ghost use Rattle.ultra_measure.specs.Kept.{IsKept};
+ghost use Rattle.ultra_measure.specs.{Kept.IsKept, Texts.{all_names, line_if, names_line, text_if}, Window.greatest};
 ghost use Rattle.ultra_measure.specs.Rows.{column_text, columns_text, ended_if, first_text, name_text, row_end, row_text, value_if, value_text};
-ghost use Rattle.ultra_measure.specs.Texts.{all_names, line_if, names_line, text_if};
-ghost use Rattle.ultra_measure.specs.Window.{greatest};
 
 use crate::window::Window;
 use ultra_block::Blocks;

@@ -3,10 +3,7 @@
 ghost use Rattle.std.specs.Prelude.{◌≡◌, ℕ, List, ◌+◌, ◌^◌, ◌<◌, ◌≤◌, slice_index};
 ghost use Rattle.ultra_isa.specs.declared.Instr.{Instr as InstrOf};
 ghost use Rattle.ultra_model.specs.Machine.{Settings};
-ghost use Rattle.ultra_measure.specs.Sums.{HaveRoom};
-ghost use Rattle.ultra_measure.specs.Held.{AreUnitsWith};
-ghost use Rattle.ultra_measure.specs.Kept.{AreDepths, AreWithState, IsAfterCycle};
-ghost use Rattle.ultra_measure.specs.Nets.{IsNetOf};
+ghost use Rattle.ultra_measure.specs.{Sums.HaveRoom, Held.AreUnitsWith, Kept.{AreDepths, AreWithState, IsAfterCycle}, Nets.IsNetOf};
 
 use crate::queues::depth_of_stage;
 use ultra_block::{Blocks, Held};

@@ -3,11 +3,9 @@
 
 ghost use Rattle.std.specs.Prelude.{◌≡◌, ◌≢◌, ℕ, List, ◌+◌, ◌*◌, ◌^◌, ◌<◌, ◌≤◌};
 ghost use Rattle.ultra_isa.specs.declared.Instr.{Instr as InstrOf};
-ghost use Rattle.ultra_model.specs.Machine.{Settings, Machine, size};
-ghost use Rattle.ultra_model.specs.Phases.{after};
+ghost use Rattle.ultra_model.specs.{Machine.{Settings, Machine, size}, Phases.after};
 ghost use Rattle.ultra_topology.specs.Set.{has_bit};
-ghost use Rattle.ultra_measure.specs.Held.{running, stalled, opened};
-ghost use Rattle.ultra_measure.specs.Kept.{IsAfterCycle};
+ghost use Rattle.ultra_measure.specs.{Held.{running, stalled, opened}, Kept.IsAfterCycle};
 ghost use Rattle.ultra_measure.specs.ElementStates.{AreAnswered, AreBelow, AreKnown, AreKnownBut, AreSeen, IsKnown, IsSameAt, three_in_one};
 
 use crate::pe_set::PeSet;

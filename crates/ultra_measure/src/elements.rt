@@ -2,13 +2,8 @@
 
 ghost use Rattle.std.specs.Prelude.{◌≡◌, ℕ, List, ◌+◌, ◌*◌, ◌^◌, ◌<◌, ◌≤◌, true};
 ghost use Rattle.ultra_isa.specs.declared.Instr.{Instr as InstrOf};
-ghost use Rattle.ultra_model.specs.Machine.{Settings, size};
-ghost use Rattle.ultra_model.specs.Balance.{total};
-ghost use Rattle.ultra_measure.specs.ElementStates.{AreAnswered};
-ghost use Rattle.ultra_measure.specs.Held.{AreUnitsWith, pending};
-ghost use Rattle.ultra_measure.specs.Kept.{AreElementSums, IsAfterCycle};
-ghost use Rattle.ultra_measure.specs.Nets.{IsNetOf};
-ghost use Rattle.ultra_measure.specs.Window.{greatest};
+ghost use Rattle.ultra_model.specs.{Machine.{Settings, size}, Balance.total};
+ghost use Rattle.ultra_measure.specs.{ElementStates.AreAnswered, Held.{AreUnitsWith, pending}, Kept.{AreElementSums, IsAfterCycle}, Nets.IsNetOf, Window.greatest};
 ghost use Rattle.ultra_block.specs.Held.TheVariants.{Request};
 
 use crate::element_states::ElementStates;

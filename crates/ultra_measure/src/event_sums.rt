@@ -2,13 +2,10 @@
 
 ghost use Rattle.std.specs.Prelude.{◌≡◌, ℕ, List, ◌+◌, ◌-◌, ◌^◌, ◌<◌, ◌≤◌, ◌==◌, ◌&&◌, ◌||◌, length, nat_lt, slice_index};
 ghost use Rattle.ultra_isa.specs.declared.Instr.{Instr as InstrOf};
-ghost use Rattle.ultra_model.specs.Machine.{Settings, size};
-ghost use Rattle.ultra_model.specs.Balance.{weight};
+ghost use Rattle.ultra_model.specs.{Machine.{Settings, size}, Balance.weight};
 ghost use Rattle.ultra_measure.specs.EventKinds.{is_issue, is_delivery, is_delivery_to, is_act, is_act_of, is_combination, is_combination_in};
 ghost use Rattle.ultra_topology.specs.Set.{has_bit};
-ghost use Rattle.ultra_measure.specs.ElementStates.{AreAnswered};
-ghost use Rattle.ultra_measure.specs.Counts.{AreWithEvents, CanTake};
-ghost use Rattle.ultra_measure.specs.Kept.{AreEventSums, IsAfterCycle};
+ghost use Rattle.ultra_measure.specs.{ElementStates.AreAnswered, Counts.{AreWithEvents, CanTake}, Kept.{AreEventSums, IsAfterCycle}};
 
 use crate::pe_set::PeSet;
 use ultra_block::Blocks;

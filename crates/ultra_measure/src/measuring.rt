@@ -3,14 +3,9 @@
 ghost use Rattle.std.specs.Prelude.{◌≡◌, ◌≢◌, ℕ, ◌+◌, ◌≤◌, ◌++◌, OnOk, OnErr, IfErr};
 ghost use Rattle.ultra_msg.specs.Bytes.{TakesPrefix};
 ghost use Rattle.ultra_io.specs.TextBuffer.{Writes};
-ghost use Rattle.ultra_model.specs.Machine.{is_quiet};
-ghost use Rattle.ultra_model.specs.Trace.{by_number};
-ghost use Rattle.ultra_trace_alone.specs.declared.fault.RunFault.TheVariants.{NoMemory, NoThread};
-ghost use Rattle.ultra_trace_alone.specs.Faults.{sink_faults};
-ghost use Rattle.ultra_measure.specs.Nets.{IsNetOf};
-ghost use Rattle.ultra_measure.specs.Rows.{row_text};
-ghost use Rattle.ultra_measure.specs.Running.{AreAfter, IsOn, IsWindowRun};
-ghost use Rattle.ultra_measure.specs.Texts.{end_if, HasWindows, measured, window_of, window_count};
+ghost use Rattle.ultra_model.specs.{Machine.is_quiet, Trace.by_number};
+ghost use Rattle.ultra_trace_alone.specs.{declared.fault.RunFault.TheVariants.{NoMemory, NoThread}, Faults.sink_faults};
+ghost use Rattle.ultra_measure.specs.{Nets.IsNetOf, Rows.row_text, Running.{AreAfter, IsOn, IsWindowRun}, Texts.{end_if, HasWindows, measured, window_of, window_count}};
 
 use crate::columns::{Form, measure_names, put_row};
 use crate::queues::net_of;

@@ -1,11 +1,8 @@
 //! How much the queues and wait buffers of a stage hold.
 
 ghost use Rattle.std.specs.Prelude.{◌≡◌, ◌+◌, ◌-◌, ◌*◌, ◌^◌, ◌<◌, ◌≤◌, max, true};
-ghost use Rattle.ultra_model.specs.Machine.{size};
-ghost use Rattle.ultra_model.specs.Balance.{total};
-ghost use Rattle.ultra_measure.specs.Held.{AreUnitsWith, full_at, held_at, is_full, wait_places_of};
-ghost use Rattle.ultra_measure.specs.Nets.{IsNetOf};
-ghost use Rattle.ultra_measure.specs.Window.{greatest};
+ghost use Rattle.ultra_model.specs.{Machine.size, Balance.total};
+ghost use Rattle.ultra_measure.specs.{Held.{AreUnitsWith, full_at, held_at, is_full, wait_places_of}, Nets.IsNetOf, Window.greatest};
 
 use ultra_block::{Blocks, Held};
 use ultra_holders::switches_of;

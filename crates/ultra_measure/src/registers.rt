@@ -1,12 +1,10 @@
 //! How many registers of the modules are full.
 
 ghost use Rattle.std.specs.Prelude.{◌≡◌, ◌^◌, ◌≤◌, true, length};
-ghost use Rattle.ultra_model.specs.Machine.{size};
-ghost use Rattle.ultra_model.specs.Balance.{total};
+ghost use Rattle.ultra_model.specs.{Machine.size, Balance.total};
 ghost use Rattle.ultra_topology.specs.Numbers.{IsSmall, module_number};
 ghost use Rattle.ultra_holders.specs.Holders.{numbers_in};
-ghost use Rattle.ultra_measure.specs.Held.{held_in_module};
-ghost use Rattle.ultra_measure.specs.Nets.{IsNetOf};
+ghost use Rattle.ultra_measure.specs.{Held.held_in_module, Nets.IsNetOf};
 
 use ultra_block::{Blocks, Held};
 use ultra_holders::modules_in;

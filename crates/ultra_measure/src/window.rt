@@ -4,8 +4,7 @@ ghost use Rattle.std.specs.Prelude.{◌≡◌, ℕ, List, ◌+◌, ◌^◌, ◌�
 ghost use Rattle.ultra_isa.specs.declared.Instr.{Instr as InstrOf};
 ghost use Rattle.ultra_model.specs.Machine.{Settings};
 ghost use Rattle.ultra_latency.specs.Open.{IsOpenTable};
-ghost use Rattle.ultra_measure.specs.Kept.{AreLatencies, IsAfterCycle, IsKept};
-ghost use Rattle.ultra_measure.specs.Nets.{IsNetOf};
+ghost use Rattle.ultra_measure.specs.{Kept.{AreLatencies, IsAfterCycle, IsKept}, Nets.IsNetOf};
 
 use crate::depths::Depths;
 use crate::elements::ElementSums;

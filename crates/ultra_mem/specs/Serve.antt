@@ -1,11 +1,8 @@
 -- what one memory module does. That the module adds is the 1983 paper's; its two registers are this
 -- project's profile
 use Rattle.std.specs.Prelude.{◌≡◌, ℕ, List, [], Option, Some, None, replicate, slice_index, slice_set}
-use Rattle.ultra_msg.specs.declared.ReplyMessage.{ReplyMessage}
-use Rattle.ultra_msg.specs.declared.Request.{Request}
-use Rattle.ultra_msg.specs.Act.{act}
-use Rattle.ultra_mem.specs.declared.Placed.{Placed}
-use Rattle.ultra_mem.specs.declared.Served.{Served}
+use Rattle.ultra_msg.specs.{declared.{ReplyMessage.ReplyMessage, Request.Request}, Act.act}
+use Rattle.ultra_mem.specs.declared.{Placed.Placed, Served.Served}
 
 -- its cells by offset, the request that waits for it, and the reply that waits to leave
 pub record ModuleState : Type 0 where

@@ -64,8 +64,7 @@ pub struct Module {
 
 impl Model for Module {
     ghost use Rattle.std.specs.Prelude.{◌<◌, ◌≤◌, length, IfSome};
-    ghost use Rattle.ultra_mem.specs.Serve.{ModuleState};
-    ghost use Rattle.ultra_mem.specs.declared.TheConstants.{MOST_CELLS};
+    ghost use Rattle.ultra_mem.specs.{Serve.ModuleState, declared.TheConstants.MOST_CELLS};
 
     ghost Value = { ModuleState };
 

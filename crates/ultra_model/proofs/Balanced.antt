@@ -3,16 +3,13 @@ use Rattle.std.proofs.Common.{◌≡◌, ℕ, ◌+◌, ◌<◌, ◌≤◌, List,
 use Rattle.std.specs.Prelude.{Option, Some, None, ◌==◌, ◌||◌}
 use Rattle.std.proofs.lemmas.Bool.{eqb-true}
 use Rattle.ultra_msg.specs.declared.Request.{Request}
-use Rattle.ultra_pni.specs.declared.OpenCell.{OpenCell}
-use Rattle.ultra_pni.specs.Interface.{Interface, is_open}
-use Rattle.ultra_isa.specs.declared.Instr.{Instr}
-use Rattle.ultra_isa.specs.Instruction.{Site}
+use Rattle.ultra_pni.specs.{declared.OpenCell.OpenCell, Interface.{Interface, is_open}}
+use Rattle.ultra_isa.specs.{declared.Instr.Instr, Instruction.Site}
 use Rattle.ultra_isa.proofs.Steps.{SendsInto, step_is}
 use Rattle.ultra_model.specs.Machine.{Settings, Machine, size, site, start, lane_at, replies_at, module_at, element_at}
 use Rattle.ultra_model.specs.Phases.{memory_phase, processor_phase, step_at}
 use Rattle.ultra_model.specs.Balance.{weight, count, total, passes, lane_on_way, replies_on_way, module_on_way, pending_on_way, opened_by, on_way, all_opened, IsBalanced}
-use Rattle.ultra_model.proofs.Sums.{total_same, total_plus, total_zero}
-use Rattle.ultra_model.proofs.Counting.{count-append, serve_way}
+use Rattle.ultra_model.proofs.{Sums.{total_same, total_plus, total_zero}, Counting.{count-append, serve_way}}
 use Rattle.ultra_model.proofs.AtPlaces.{lane-start, replies-start, memory_module-start, element-start, memory_module-memory_phase, element-processor_phase}
 
 both_false : (a b : Bool) → (a || b) ≡ false → (a ≡ false) × (b ≡ false)

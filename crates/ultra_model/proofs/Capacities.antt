@@ -2,25 +2,17 @@
 use Rattle.std.proofs.Common.{◌≡◌, ℕ, ◌+◌, ◌*◌, ◌/◌, ◌%◌, ◌≤◌, ◌<◌, List, [], ◌∷◌, ◌++◌, Bool, true, false, refl, arith, ap, length, cond, drop, length-append, ◌⊎◌, ⊎_elim, inl, inr}
 use Rattle.std.specs.Prelude.{Option, Some, None, IfSome, ◌==◌, nat_lt, nat_le}
 use Rattle.std.specs.List.{filter}
-use Rattle.std.proofs.lemmas.Bool.{eqb-true, cases_lt}
-use Rattle.std.proofs.lemmas.Bool.Decides.{nat_tests}
-use Rattle.ultra_msg.specs.declared.Request.{Request}
-use Rattle.ultra_msg.specs.declared.ReplyMessage.{ReplyMessage}
-use Rattle.ultra_switch.specs.declared.QueueEntry.{QueueEntry}
-use Rattle.ultra_switch.specs.declared.WaitRecord.{WaitRecord}
+use Rattle.std.proofs.lemmas.Bool.{eqb-true, cases_lt, Decides.nat_tests}
+use Rattle.ultra_msg.specs.declared.{Request.Request, ReplyMessage.ReplyMessage}
+use Rattle.ultra_switch.specs.{declared.{QueueEntry.QueueEntry, WaitRecord.WaitRecord}, Split.{is_of, records_after, replies_of}}
 use Rattle.ultra_switch.specs.Arrive.{Lane, Combination, entry, behind, can_combine, wait_record, combine, combine_within, after_arrival, arrive}
-use Rattle.ultra_switch.specs.Split.{is_of, records_after, replies_of}
-use Rattle.ultra_pni.specs.declared.OpenCell.{OpenCell}
-use Rattle.ultra_pni.specs.Interface.{Interface, closed}
-use Rattle.ultra_isa.specs.declared.Instr.{Instr}
-use Rattle.ultra_isa.specs.Instruction.{Site}
+use Rattle.ultra_pni.specs.{declared.OpenCell.OpenCell, Interface.{Interface, closed}}
+use Rattle.ultra_isa.specs.{declared.Instr.Instr, Instruction.Site}
 use Rattle.ultra_isa.proofs.Steps.{SendsInto, step_is}
-use Rattle.ultra_model.specs.Places.{after_leaving}
+use Rattle.ultra_model.specs.{Places.after_leaving, Capacity.IsWithinCapacity}
 use Rattle.ultra_model.specs.Machine.{Settings, Machine, Element, site, start, lane_at, replies_at, element_at, reply_exit, request_exit}
 use Rattle.ultra_model.specs.Phases.{deliver, records_left, replies_made, arrive_all, has_reply_room, arriving_reply, reply_before, leaving_reply, replies_at_exit, next_replies, delivered, reply_phase, memory_phase, has_request_room, request_before, admitted, arriving_request, requests_by, arrivals_by, arrivals, leaving_request, lane_after_leaving, request_phase, step_at, processor_phase}
-use Rattle.ultra_model.specs.Capacity.{IsWithinCapacity}
-use Rattle.ultra_model.proofs.Each.{if_tested}
-use Rattle.ultra_model.proofs.Counting.{both_true}
+use Rattle.ultra_model.proofs.{Each.if_tested, Counting.both_true}
 use Rattle.ultra_model.proofs.AtPlaces.{lane-start, replies-start, element-start, lane-reply_phase, replies-reply_phase, element-reply_phase, lane-request_phase, element-request_phase, element-processor_phase}
 
 -- ---- lists

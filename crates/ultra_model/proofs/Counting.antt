@@ -3,18 +3,12 @@ use Rattle.std.proofs.Common.{◌≡◌, ℕ, ◌+◌, ◌≤◌, List, [], ◌�
 use Rattle.std.specs.Prelude.{Option, Some, None, IfSome, slice_get, ◌==◌, ◌&&◌, nat_lt}
 use Rattle.std.specs.List.{filter, AllByRecursion}
 use Rattle.std.proofs.lemmas.Bool.{eqb-true}
-use Rattle.ultra_msg.specs.declared.Request.{Request}
-use Rattle.ultra_msg.specs.declared.ReplyMessage.{ReplyMessage}
-use Rattle.ultra_switch.specs.declared.QueueEntry.{QueueEntry}
-use Rattle.ultra_switch.specs.declared.WaitRecord.{WaitRecord}
+use Rattle.ultra_msg.specs.declared.{Request.Request, ReplyMessage.ReplyMessage}
+use Rattle.ultra_switch.specs.{declared.{QueueEntry.QueueEntry, WaitRecord.WaitRecord}, Split.{is_of, records_after, replies_of, old_reply, new_reply}}
 use Rattle.ultra_switch.specs.Arrive.{Lane, Combination, entry, behind, can_combine, wait_record, combine, combine_within, after_arrival, arrive}
-use Rattle.ultra_switch.specs.Split.{is_of, records_after, replies_of, old_reply, new_reply}
-use Rattle.ultra_mem.specs.declared.Placed.{Placed}
-use Rattle.ultra_mem.specs.Serve.{ModuleState, after_serving, serve}
-use Rattle.ultra_pni.specs.declared.OpenCell.{OpenCell}
-use Rattle.ultra_pni.specs.Interface.{closed}
-use Rattle.ultra_model.specs.Places.{after_leaving}
-use Rattle.ultra_model.specs.Phases.{records_left, replies_made, arrive_all}
+use Rattle.ultra_mem.specs.{declared.Placed.Placed, Serve.{ModuleState, after_serving, serve}}
+use Rattle.ultra_pni.specs.{declared.OpenCell.OpenCell, Interface.closed}
+use Rattle.ultra_model.specs.{Places.after_leaving, Phases.{records_left, replies_made, arrive_all}}
 use Rattle.ultra_model.specs.Balance.{weight, count, count_option, passes, reply_passes, entry_passes, record_passes, replies_on_way, lane_on_way, module_on_way}
 use Rattle.ultra_model.proofs.Each.{if_tested}
 

@@ -2,11 +2,7 @@
 use Rattle.std.proofs.Common.{◌≡◌, ◌≢◌, ℕ, ◌<◌, ◌^◌, ◌+◌, Bool, true, false, not, ◌||◌, ◌==◌, ℤ, List, [], ◌∷◌, ◌++◌, length, get_or, set, take, drop, All, refl, sym, ◌∙◌, ap, inl, inr, arith, zero, suc, ◌⊎◌, add-one}
 use Rattle.std.specs.List.{list_all}
 use Rattle.std.proofs.lemmas.Bool.{or_cases, or_from, and_from, and_parts, and_left, and_right, or_parts, or_left, or_right, eqb-true, eqb-false, eq-eqb, ne_eqb, cases_eq, not_from_true, not-true, false≢true}
-use Rattle.std.proofs.lemmas.List.{map-append, get_or-set_same, get_or-set_other, take-append-drop}
-use Rattle.std.proofs.Math.Seq.{drop-cons}
-use Rattle.std.proofs.lemmas.List.Elements.{All-push, All-nil}
-use Rattle.std.proofs.lemmas.List.Folds.{list_all-append, list_all_at}
-use Rattle.std.proofs.Math.ListN.{length-set}
+use Rattle.std.proofs.{lemmas.List.{map-append, get_or-set_same, get_or-set_other, take-append-drop, Elements.{All-push, All-nil}, Folds.{list_all-append, list_all_at}}, Math.{Seq.drop-cons, ListN.length-set}}
 use Rattle.ultra_model.specs.Accepted.{is_cell, initial_cell, cells_of, is_given_value, are_different, are_initial}
 
 -- the initial cells so far, of those that are given, and a mark at each of their addresses

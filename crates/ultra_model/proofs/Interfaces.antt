@@ -1,24 +1,13 @@
 -- what a sound machine's interfaces are, as the code of an interface asks it
 use Rattle.std.proofs.Common.{◌≡◌, ℕ, ◌+◌, ◌<◌, ◌≤◌, List, [], ◌∷◌, Bool, true, false, refl, arith, sym, ◌∙◌, ◌||◌}
-use Rattle.std.specs.Prelude.{IfSome, ◌==◌}
-use Rattle.std.specs.List.{list_any}
+use Rattle.std.specs.{Prelude.{IfSome, ◌==◌}, List.list_any}
 use Rattle.std.proofs.lemmas.Bool.{or_from}
-use Rattle.ultra_msg.specs.declared.Request.{Request}
-use Rattle.ultra_msg.specs.declared.ReplyMessage.{ReplyMessage}
+use Rattle.ultra_msg.specs.declared.{Request.Request, ReplyMessage.ReplyMessage}
 use Rattle.ultra_route.specs.Route.{shuffled}
-use Rattle.ultra_pni.specs.declared.OpenCell.{OpenCell}
-use Rattle.ultra_pni.specs.Interface.{CanDeliver}
-use Rattle.ultra_model.specs.Machine.{Settings, Machine, size, replies_at, element_at}
-use Rattle.ultra_model.specs.Phases.{delivered}
-use Rattle.ultra_model.specs.Ranges.{AreInRange}
-use Rattle.ultra_model.specs.Routed.{IsReference, IsOwn, IsRouted}
+use Rattle.ultra_pni.specs.{declared.OpenCell.OpenCell, Interface.CanDeliver}
+use Rattle.ultra_model.specs.{Machine.{Settings, Machine, size, replies_at, element_at}, Phases.delivered, Ranges.AreInRange, Routed.{IsReference, IsOwn, IsRouted}}
 use Rattle.ultra_model.specs.Balance.{weight, count, passes, reply_passes, replies_on_way, pending_on_way, IsBalanced}
-use Rattle.ultra_model.proofs.Each.{each-weaker}
-use Rattle.ultra_model.proofs.Sums.{total_term, table_term}
-use Rattle.ultra_model.proofs.Counting.{count-same, false_of_zero, is_reference, head_counted, some_known}
-use Rattle.ultra_model.proofs.Routes.{turns_back, delivered_well}
-use Rattle.ultra_model.proofs.Neighbours.{itself}
-use Rattle.ultra_model.proofs.ReplyBalance.{opened_once}
+use Rattle.ultra_model.proofs.{Each.each-weaker, Sums.{total_term, table_term}, Counting.{count-same, false_of_zero, is_reference, head_counted, some_known}, Routes.{turns_back, delivered_well}, Neighbours.itself, ReplyBalance.opened_once}
 
 -- where some are counted one passes, and where none are none does
 or_counted : (b c : Bool) (n : ℕ) → 1 ≤ weight b + n → (1 ≤ n → c ≡ true) → (b || c) ≡ true

@@ -3,18 +3,12 @@ use Rattle.std.proofs.Common.{◌≡◌, ℕ, List, [], ◌∷◌, Bool, true, f
 use Rattle.std.specs.Prelude.{Option, Some, None, IfSome, ◌==◌, not, nat_lt}
 use Rattle.std.specs.List.{filter, AllByRecursion}
 use Rattle.std.proofs.lemmas.Bool.{eqb-true}
-use Rattle.ultra_msg.specs.declared.Request.{Request}
-use Rattle.ultra_msg.specs.declared.ReplyMessage.{ReplyMessage}
-use Rattle.ultra_switch.specs.declared.QueueEntry.{QueueEntry}
-use Rattle.ultra_switch.specs.declared.WaitRecord.{WaitRecord}
+use Rattle.ultra_msg.specs.declared.{Request.Request, ReplyMessage.ReplyMessage}
+use Rattle.ultra_switch.specs.{declared.{QueueEntry.QueueEntry, WaitRecord.WaitRecord}, Split.{is_of, records_after, replies_of, old_reply, new_reply}, Queues.request_of}
 use Rattle.ultra_switch.specs.Arrive.{Lane, Combination, entry, behind, can_combine, wait_record, combine, combine_within, combined_entry, after_arrival, arrive}
-use Rattle.ultra_switch.specs.Split.{is_of, records_after, replies_of, old_reply, new_reply}
-use Rattle.ultra_switch.specs.Queues.{request_of}
-use Rattle.ultra_pni.specs.declared.OpenCell.{OpenCell}
-use Rattle.ultra_pni.specs.Interface.{closed}
+use Rattle.ultra_pni.specs.{declared.OpenCell.OpenCell, Interface.closed}
 use Rattle.ultra_model.specs.Phases.{records_left, replies_made, arrive_all}
-use Rattle.ultra_model.proofs.Each.{each-append, if_tested}
-use Rattle.ultra_model.proofs.Counting.{both_true}
+use Rattle.ultra_model.proofs.{Each.{each-append, if_tested}, Counting.both_true}
 
 -- what a filter keeps passed its test
 kept_if : {X : Type 0} (P : X → Type 0) (x : X) (xs : List X) (b : Bool) → (b ≡ true → P x) → AllByRecursion P xs → AllByRecursion P (cond b (x ∷ xs) xs)

@@ -1,13 +1,10 @@
 -- worked runs of one stage, in which two requests for one cell meet in a queue: what is sent for both, and how both are answered
 use Rattle.std.specs.Prelude.{◌≡◌, List, [], ◌∷◌, true, false, refl}
-use Rattle.ultra_msg.specs.declared.Op.TheVariants.{Load, Store, Faa}
+use Rattle.ultra_msg.specs.declared.{Op.TheVariants.{Load, Store, Faa}, Reply.TheVariants.{Value, Ack}}
 use Rattle.ultra_msg.specs.declared.Give.TheVariants as give
-use Rattle.ultra_msg.specs.declared.Reply.TheVariants.{Value, Ack}
-use Rattle.ultra_isa.specs.declared.Instr.{Instr}
+use Rattle.ultra_isa.specs.declared.{Instr.Instr, Activity.TheVariants.Halted}
 use Rattle.ultra_isa.specs.declared.Instr.TheVariants as instr
-use Rattle.ultra_isa.specs.declared.Activity.TheVariants.{Halted}
-use Rattle.ultra_model.specs.Places.{places}
-use Rattle.ultra_model.specs.Machine.{Settings, start}
+use Rattle.ultra_model.specs.{Places.places, Machine.{Settings, start}}
 use Rattle.ultra_model.specs.Phases.{after, cycle, reply_phase, memory_phase, request_phase, processor_phase, arriving_reply, arriving_request}
 use Rattle.ultra_model.proofs.Runs.{settings, request, message, single, marked, kept, got, act, meeting, issuing, pending, queued, waiting, entering, leaving, replying, holdings, stand, summary}
 

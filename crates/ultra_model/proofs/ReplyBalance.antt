@@ -4,19 +4,15 @@ use Rattle.std.specs.Prelude.{Option, Some, None, IfSome, slice_get, ◌==◌}
 use Rattle.ultra_msg.specs.declared.ReplyMessage.{ReplyMessage}
 use Rattle.ultra_route.specs.Route.{shuffled, unshuffled, bit_of}
 use Rattle.ultra_mem.specs.Serve.{ModuleState}
-use Rattle.ultra_pni.specs.declared.OpenCell.{OpenCell}
-use Rattle.ultra_pni.specs.Interface.{closed}
-use Rattle.ultra_model.specs.Places.{after_leaving}
+use Rattle.ultra_pni.specs.{declared.OpenCell.OpenCell, Interface.closed}
+use Rattle.ultra_model.specs.{Places.after_leaving, Ranges.AreInRange, Routed.{IsReference, IsRouted}}
 use Rattle.ultra_model.specs.Machine.{Settings, Machine, Element, size, last_stage, lane_at, replies_at, module_at, element_at, reply_exit}
 use Rattle.ultra_model.specs.Phases.{deliver, delivered, without_reply, replies_made, arriving_reply, reply_before, has_reply_room, leaving_reply, replies_at_exit, reply_phase}
-use Rattle.ultra_model.specs.Ranges.{AreInRange}
-use Rattle.ultra_model.specs.Routed.{IsReference, IsRouted}
 use Rattle.ultra_model.specs.Balance.{weight, count, count_option, total, reply_passes, lane_on_way, replies_on_way, module_on_way, pending_on_way, opened_by, on_way, all_opened, IsBalanced}
 use Rattle.ultra_model.proofs.Sums.{total_next, total_front, total_same, total_plus, total_only, total_pairs, total_unshuffled, total_shuffled, table_same, table_plus, table_term}
 use Rattle.ultra_model.proofs.Neighbours.{next_is, itself, other, one_neighbour, even_half, odd_half}
 use Rattle.ultra_model.proofs.Counting.{count-append, count-leaving, count-filters, is_reference, none_false, head_counted, some_known, made_way, closed_way}
-use Rattle.ultra_model.proofs.Routes.{turns_back, delivered_well}
-use Rattle.ultra_model.proofs.AtPlaces.{lane-reply_phase, replies-reply_phase, memory_module-reply_phase, element-reply_phase}
+use Rattle.ultra_model.proofs.{Routes.{turns_back, delivered_well}, AtPlaces.{lane-reply_phase, replies-reply_phase, memory_module-reply_phase, element-reply_phase}}
 use Rattle.ultra_route.proofs.Table.{sizes}
 
 module _ (t : ℕ → ℕ → Bool) where

@@ -5,22 +5,15 @@ use Rattle.std.proofs.lemmas.Bool.{eqb-true}
 use Rattle.ultra_msg.specs.declared.Request.{Request}
 use Rattle.ultra_route.specs.Route.{shuffled, unshuffled, bit_of}
 use Rattle.ultra_route.proofs.Table.{sizes}
-use Rattle.ultra_switch.specs.declared.QueueEntry.{QueueEntry}
-use Rattle.ultra_switch.specs.Queues.{request_of}
-use Rattle.ultra_mem.specs.declared.Placed.{Placed}
-use Rattle.ultra_mem.specs.Serve.{ModuleState}
-use Rattle.ultra_model.specs.Places.{after_leaving}
+use Rattle.ultra_switch.specs.{declared.QueueEntry.QueueEntry, Queues.request_of}
+use Rattle.ultra_mem.specs.{declared.Placed.Placed, Serve.ModuleState}
+use Rattle.ultra_model.specs.{Places.after_leaving, Ranges.AreInRange}
 use Rattle.ultra_model.specs.Machine.{Settings, Machine, size, last_stage, lane_at, replies_at, module_at, element_at, request_exit}
 use Rattle.ultra_model.specs.Phases.{has_request_room, request_before, admitted, arriving_request, entering, with_request, leaving_request, requests_by, arrivals_by, arrivals, lane_after_leaving, request_phase}
-use Rattle.ultra_model.specs.Ranges.{AreInRange}
 use Rattle.ultra_model.specs.Balance.{weight, count, count_option, total, passes, entry_passes, lane_on_way, replies_on_way, module_on_way, pending_on_way, on_way, all_opened, IsBalanced}
-use Rattle.ultra_model.proofs.Each.{if_tested}
+use Rattle.ultra_model.proofs.{Each.if_tested, Counting.{count-append, count-leaving, arrive_all_way}, Routes.turns_back, ReplyBalance.last_next, AtPlaces.{lane-request_phase, memory_module-request_phase, element-request_phase}}
 use Rattle.ultra_model.proofs.Sums.{total_next, total_front, total_same, total_plus, total_pairs, total_shuffled, table_same, table_plus}
-use Rattle.ultra_model.proofs.Counting.{count-append, count-leaving, arrive_all_way}
-use Rattle.ultra_model.proofs.Routes.{turns_back}
 use Rattle.ultra_model.proofs.Neighbours.{next_is, itself, other, one_neighbour, even_half, odd_half}
-use Rattle.ultra_model.proofs.ReplyBalance.{last_next}
-use Rattle.ultra_model.proofs.AtPlaces.{lane-request_phase, memory_module-request_phase, element-request_phase}
 
 module _ (t : ℕ → ℕ → Bool) where
   -- what leaves a queue toward memory is its first or nothing

@@ -1,13 +1,10 @@
 -- worked runs in which there is no room: in a wait buffer, in a queue, in an interface
 use Rattle.std.specs.Prelude.{◌≡◌, List, [], ◌∷◌, true, refl}
-use Rattle.ultra_msg.specs.declared.Op.TheVariants.{Faa}
+use Rattle.ultra_msg.specs.declared.{Op.TheVariants.Faa, Reply.TheVariants.Value}
 use Rattle.ultra_msg.specs.declared.Give.TheVariants as give
-use Rattle.ultra_msg.specs.declared.Reply.TheVariants.{Value}
-use Rattle.ultra_isa.specs.declared.Instr.{Instr}
+use Rattle.ultra_isa.specs.declared.{Instr.Instr, Activity.TheVariants.{Running, Halted}}
 use Rattle.ultra_isa.specs.declared.Instr.TheVariants as instr
-use Rattle.ultra_isa.specs.declared.Activity.TheVariants.{Running, Halted}
-use Rattle.ultra_model.specs.Places.{places}
-use Rattle.ultra_model.specs.Machine.{Settings, start}
+use Rattle.ultra_model.specs.{Places.places, Machine.{Settings, start}}
 use Rattle.ultra_model.specs.Phases.{after, cycle, reply_phase, memory_phase, request_phase, processor_phase, arriving_reply, arriving_request}
 use Rattle.ultra_model.proofs.Runs.{settings, request, message, single, marked, kept, got, act, meeting, issuing, queued, waiting, entering, leaving, replying, holdings, stand, stands, summary}
 

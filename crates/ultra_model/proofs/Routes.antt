@@ -2,19 +2,13 @@
 use Rattle.std.proofs.Common.{◌≡◌, ℕ, ◌+◌, ◌-◌, ◌*◌, ◌/◌, ◌%◌, ◌<◌, ◌≤◌, List, [], ◌∷◌, false, refl, arith, sym, ◌∙◌, ap, subst}
 use Rattle.std.specs.Prelude.{Option, Some, None, IfSome, slice_get, ◌==◌}
 use Rattle.std.specs.List.{AllByRecursion}
-use Rattle.std.proofs.lemmas.Nat.{pow_pos, div_below}
-use Rattle.std.proofs.lemmas.Bool.{eqb-true}
-use Rattle.std.proofs.lemmas.Bool.Decides.{nat_tests}
-use Rattle.ultra_msg.specs.declared.Request.{Request}
-use Rattle.ultra_msg.specs.declared.ReplyMessage.{ReplyMessage}
+use Rattle.std.proofs.lemmas.{Nat.{pow_pos, div_below}, Bool.{eqb-true, Decides.nat_tests}}
+use Rattle.ultra_msg.specs.declared.{Request.Request, ReplyMessage.ReplyMessage}
 use Rattle.ultra_route.specs.Route.{shuffled, unshuffled, line_of}
 use Rattle.ultra_route.proofs.Table.{turn, Turn, back, Back, ends, sizes}
-use Rattle.ultra_switch.specs.declared.QueueEntry.{QueueEntry}
-use Rattle.ultra_switch.specs.Queues.{request_of}
-use Rattle.ultra_mem.specs.declared.Placed.{Placed}
-use Rattle.ultra_mem.specs.Serve.{ModuleState, after_serving, serve}
-use Rattle.ultra_pni.specs.declared.OpenCell.{OpenCell}
-use Rattle.ultra_pni.specs.Interface.{Interface}
+use Rattle.ultra_switch.specs.{declared.QueueEntry.QueueEntry, Queues.request_of}
+use Rattle.ultra_mem.specs.{declared.Placed.Placed, Serve.{ModuleState, after_serving, serve}}
+use Rattle.ultra_pni.specs.{declared.OpenCell.OpenCell, Interface.Interface}
 use Rattle.ultra_isa.specs.declared.Instr.{Instr}
 use Rattle.ultra_isa.proofs.Steps.{SendsInto, step_is}
 use Rattle.ultra_model.specs.Machine.{Settings, Machine, Element, size, last_stage, site, start, lane_at, replies_at, module_at, element_at, reply_exit, request_exit}

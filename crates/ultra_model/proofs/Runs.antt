@@ -2,20 +2,10 @@
 -- is where between two cycles
 use Rattle.std.specs.Prelude.{ℕ, zero, suc, ◌*◌, ◌%◌, ◌/◌, List, [], ◌∷◌, ◌++◌, Bool, true, false, map, Option, Some, None, slice_index}
 use Rattle.std.specs.List.{filter, range_with_len}
-use Rattle.ultra_msg.specs.declared.Request.{Request}
-use Rattle.ultra_msg.specs.declared.Op.{Op}
-use Rattle.ultra_msg.specs.declared.Give.{Give}
-use Rattle.ultra_msg.specs.declared.Reply.{Reply}
-use Rattle.ultra_msg.specs.declared.ReplyMessage.{ReplyMessage}
-use Rattle.ultra_msg.specs.declared.Event.{Event}
-use Rattle.ultra_msg.specs.declared.Event.TheVariants.{Delivered, Served, Combined, Issued}
-use Rattle.ultra_switch.specs.declared.QueueEntry.{QueueEntry}
-use Rattle.ultra_switch.specs.declared.WaitRecord.{WaitRecord}
-use Rattle.ultra_switch.specs.Arrive.{Lane, entry}
-use Rattle.ultra_mem.specs.declared.Placed.{Placed}
-use Rattle.ultra_mem.specs.Serve.{ModuleState}
-use Rattle.ultra_isa.specs.declared.Instr.{Instr}
-use Rattle.ultra_isa.specs.declared.Activity.{Activity}
+use Rattle.ultra_msg.specs.declared.{Request.Request, Op.Op, Give.Give, Reply.Reply, ReplyMessage.ReplyMessage, Event.{Event, TheVariants.{Delivered, Served, Combined, Issued}}}
+use Rattle.ultra_switch.specs.{declared.{QueueEntry.QueueEntry, WaitRecord.WaitRecord}, Arrive.{Lane, entry}}
+use Rattle.ultra_mem.specs.{declared.Placed.Placed, Serve.ModuleState}
+use Rattle.ultra_isa.specs.declared.{Instr.Instr, Activity.Activity}
 use Rattle.ultra_model.specs.Machine.{Settings, Machine, Element, size, module_at, is_quiet}
 use Rattle.ultra_model.specs.Phases.{after}
 

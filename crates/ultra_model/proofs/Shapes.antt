@@ -1,17 +1,13 @@
 -- every phase keeps the shape of the machine
 use Rattle.std.proofs.Common.{◌≡◌, ℕ, ◌<◌, List, [], refl, length, ◌∙◌}
 use Rattle.std.specs.Prelude.{Option, Some, None, slice_index_or}
-use Rattle.ultra_msg.specs.declared.Request.{Request}
-use Rattle.ultra_msg.specs.declared.ReplyMessage.{ReplyMessage}
+use Rattle.ultra_msg.specs.declared.{Request.Request, ReplyMessage.ReplyMessage}
 use Rattle.ultra_mem.specs.Serve.{ModuleState}
 use Rattle.ultra_mem.proofs.Cells.{length-serve}
 use Rattle.ultra_isa.specs.declared.Instr.{Instr}
-use Rattle.ultra_model.specs.Places.{places, table}
-use Rattle.ultra_model.specs.Machine.{Settings, Machine, last_stage, start, module_at}
+use Rattle.ultra_model.specs.{Places.{places, table}, Machine.{Settings, Machine, last_stage, start, module_at}, Shape.HasShape}
 use Rattle.ultra_model.specs.Phases.{without_reply, with_request, arriving_reply, entering, reply_phase, memory_phase, request_phase, processor_phase}
-use Rattle.ultra_model.specs.Shape.{HasShape}
-use Rattle.ultra_model.proofs.Each.{places_at, length-places}
-use Rattle.ultra_model.proofs.AtPlaces.{memory_module-start, memory_module-reply_phase, memory_module-memory_phase, memory_module-request_phase}
+use Rattle.ultra_model.proofs.{Each.{places_at, length-places}, AtPlaces.{memory_module-start, memory_module-reply_phase, memory_module-memory_phase, memory_module-request_phase}}
 
 -- a table has its rows, and each row its places
 rows-table : {X : Type 0} (m n : ℕ) (f : ℕ → ℕ → X) → length (table m n f) ≡ m

@@ -1,16 +1,9 @@
 -- a machine is sound at the start, and every phase keeps it so
 use Rattle.std.proofs.Common.{ℕ, zero, suc, List}
 use Rattle.ultra_isa.specs.declared.Instr.{Instr}
-use Rattle.ultra_model.specs.Machine.{Settings, Machine, start}
+use Rattle.ultra_model.specs.{Machine.{Settings, Machine, start}, Ranges.AreInRange, Sound.IsSound}
 use Rattle.ultra_model.specs.Phases.{reply_phase, memory_phase, request_phase, processor_phase, cycle, after}
-use Rattle.ultra_model.specs.Ranges.{AreInRange}
-use Rattle.ultra_model.specs.Sound.{IsSound}
-use Rattle.ultra_model.proofs.Shapes.{shape-start, shape-reply_phase, shape-memory_phase, shape-request_phase, shape-processor_phase}
-use Rattle.ultra_model.proofs.Capacities.{within-start, within-reply_phase, within-memory_phase, within-request_phase, within-processor_phase}
-use Rattle.ultra_model.proofs.Routes.{routed-start, routed-reply_phase, routed-memory_phase, routed-request_phase, routed-processor_phase}
-use Rattle.ultra_model.proofs.ReplyBalance.{balanced-reply_phase}
-use Rattle.ultra_model.proofs.RequestBalance.{balanced-request_phase}
-use Rattle.ultra_model.proofs.Balanced.{balanced-start, balanced-memory_phase, balanced-processor_phase}
+use Rattle.ultra_model.proofs.{Shapes.{shape-start, shape-reply_phase, shape-memory_phase, shape-request_phase, shape-processor_phase}, Capacities.{within-start, within-reply_phase, within-memory_phase, within-request_phase, within-processor_phase}, Routes.{routed-start, routed-reply_phase, routed-memory_phase, routed-request_phase, routed-processor_phase}, ReplyBalance.balanced-reply_phase, RequestBalance.balanced-request_phase, Balanced.{balanced-start, balanced-memory_phase, balanced-processor_phase}}
 
 module _ (c : Settings) (range : AreInRange c) where
   pub sound-start : IsSound c (start c)

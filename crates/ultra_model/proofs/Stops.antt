@@ -1,14 +1,10 @@
 -- worked runs of one stage in which a processing element stalls, halts or faults, and one whose sums go beyond a word
 use Rattle.std.specs.Prelude.{◌≡◌, List, [], ◌∷◌, true, refl}
-use Rattle.ultra_msg.specs.declared.Op.TheVariants.{Faa}
+use Rattle.ultra_msg.specs.declared.{Op.TheVariants.Faa, Reply.TheVariants.Value}
 use Rattle.ultra_msg.specs.declared.Give.TheVariants as give
-use Rattle.ultra_msg.specs.declared.Reply.TheVariants.{Value}
-use Rattle.ultra_isa.specs.declared.Instr.{Instr}
+use Rattle.ultra_isa.specs.declared.{Instr.Instr, MachineFault.TheVariants.{AddressOutOfRange, PastEnd}, Activity.TheVariants.{Running, Halted, Faulted}}
 use Rattle.ultra_isa.specs.declared.Instr.TheVariants as instr
-use Rattle.ultra_isa.specs.declared.MachineFault.TheVariants.{AddressOutOfRange, PastEnd}
-use Rattle.ultra_isa.specs.declared.Activity.TheVariants.{Running, Halted, Faulted}
-use Rattle.ultra_model.specs.Places.{places}
-use Rattle.ultra_model.specs.Machine.{Settings, start}
+use Rattle.ultra_model.specs.{Places.places, Machine.{Settings, start}}
 use Rattle.ultra_model.specs.Phases.{after, cycle, reply_phase, memory_phase, request_phase, processor_phase, arriving_reply, arriving_request}
 use Rattle.ultra_model.proofs.Runs.{settings, request, marked, kept, got, act, meeting, issuing, pending, queued, waiting, holdings, stand, stands, summary}
 

@@ -2,33 +2,19 @@
 use Rattle.std.proofs.Common.{◌≡◌, ℕ, zero, suc, ◌+◌, ◌-◌, ◌*◌, ◌/◌, ◌%◌, ◌^◌, ◌<◌, ◌≤◌, List, [], ◌∷◌, Bool, true, false, refl, arith, length, div-le_self}
 use Rattle.std.specs.Prelude.{Option, Some, None, IfSome, slice_get, slice_index, slice_set, replicate, ◌==◌, nat_lt, if◌then◌else◌}
 use Rattle.std.specs.List.{AllByRecursion}
-use Rattle.ultra_msg.specs.declared.Op.{Op}
+use Rattle.ultra_msg.specs.{declared.{Op.Op, Reply.Reply, Give.Give, Request.Request, ReplyMessage.ReplyMessage}, Act.{act, plus, reply_given}, Pair.pair_of}
 use Rattle.ultra_msg.specs.declared.Op.TheVariants as op
-use Rattle.ultra_msg.specs.declared.Reply.{Reply}
 use Rattle.ultra_msg.specs.declared.Reply.TheVariants as reply
-use Rattle.ultra_msg.specs.declared.Give.{Give}
 use Rattle.ultra_msg.specs.declared.Give.TheVariants as give
-use Rattle.ultra_msg.specs.Act.{act, plus, reply_given}
-use Rattle.ultra_msg.specs.Pair.{pair_of}
-use Rattle.std.proofs.lemmas.Nat.{and_le_l}
-use Rattle.std.proofs.lemmas.Bool.Decides.{nat_tests}
-use Rattle.ultra_msg.specs.declared.Request.{Request}
-use Rattle.ultra_msg.specs.declared.ReplyMessage.{ReplyMessage}
+use Rattle.std.proofs.lemmas.{Nat.and_le_l, Bool.Decides.nat_tests}
 use Rattle.ultra_route.specs.Route.{shuffled, unshuffled}
 use Rattle.ultra_route.proofs.Table.{sizes}
-use Rattle.ultra_switch.specs.declared.QueueEntry.{QueueEntry}
-use Rattle.ultra_switch.specs.declared.WaitRecord.{WaitRecord}
+use Rattle.ultra_switch.specs.{declared.{QueueEntry.QueueEntry, WaitRecord.WaitRecord}, Split.{is_of, records_after, replies_of, old_reply, new_reply}, Queues.request_of}
 use Rattle.ultra_switch.specs.Arrive.{Lane, Combination, entry, behind, can_combine, wait_record, combine, combine_within, combined_entry, after_arrival, arrive}
-use Rattle.ultra_switch.specs.Split.{is_of, records_after, replies_of, old_reply, new_reply}
-use Rattle.ultra_switch.specs.Queues.{request_of}
-use Rattle.ultra_mem.specs.declared.Placed.{Placed}
-use Rattle.ultra_mem.specs.Serve.{ModuleState, after_serving, serve, value_at}
-use Rattle.ultra_pni.specs.declared.Issue.{Issue}
-use Rattle.ultra_pni.specs.declared.Issue.TheVariants.{Sent, CellOpen, Full}
-use Rattle.ultra_pni.specs.Interface.{Interface, target_of, issue_of}
-use Rattle.ultra_isa.specs.declared.Instr.{Instr}
+use Rattle.ultra_mem.specs.{declared.Placed.Placed, Serve.{ModuleState, after_serving, serve, value_at}}
+use Rattle.ultra_pni.specs.{declared.Issue.{Issue, TheVariants.{Sent, CellOpen, Full}}, Interface.{Interface, target_of, issue_of}}
+use Rattle.ultra_isa.specs.declared.{Instr.Instr, Activity.Activity}
 use Rattle.ultra_isa.specs.declared.Instr.TheVariants.{Set, Add, AddWord, Subtract, And, ShiftRight, IsBelow, IsEqual, JumpIfZero, JumpIfNotZero, Jump, Number, Size, Load, Store, Faa, Swap, Fence, Halt}
-use Rattle.ultra_isa.specs.declared.Activity.{Activity}
 use Rattle.ultra_isa.specs.declared.Activity.TheVariants as activity
 use Rattle.ultra_isa.specs.Instruction.{Site, Effect, sets, goes_on_at, refers, waits, halts, effect}
 use Rattle.ultra_isa.specs.Step.{Core, StepResult, received, refers_as, refers_where, waits_where, does, runs_where, runs, runs_as, step_of, names_awaited}
@@ -36,10 +22,7 @@ use Rattle.ultra_isa.proofs.Steps.{SendsInto}
 use Rattle.ultra_model.specs.Machine.{Settings, Machine, Element, size, last_stage, site, start, given_value, lane_at, replies_at, module_at, element_at, reply_exit, request_exit}
 use Rattle.ultra_model.specs.Phases.{deliver, delivered, without_reply, records_left, replies_made, arriving_reply, reply_before, has_reply_room, leaving_reply, replies_at_exit, next_replies, reply_phase, memory_phase, arrive_all, has_request_room, request_before, admitted, arriving_request, entering, with_request, requests_by, arrivals, lane_after_leaving, leaving_request, request_phase, step_at, processor_phase, cycle, after}
 use Rattle.ultra_model.specs.Ranges.{AreInRange}
-use Rattle.ultra_model.proofs.Each.{each-append, each-after_leaving, each-first, each-places, if_tested}
-use Rattle.ultra_model.proofs.OnRoute.{each-filter, some-request}
-use Rattle.ultra_model.proofs.Routes.{turns_back, two_ports}
-use Rattle.ultra_model.proofs.Balanced.{sends}
+use Rattle.ultra_model.proofs.{Each.{each-append, each-after_leaving, each-first, each-places, if_tested}, OnRoute.{each-filter, some-request}, Routes.{turns_back, two_ports}, Balanced.sends}
 use Rattle.ultra_model.proofs.AtPlaces.{lane-start, replies-start, memory_module-start, element-start, lane-reply_phase, replies-reply_phase, memory_module-reply_phase, element-reply_phase, memory_module-memory_phase, lane-request_phase, memory_module-request_phase, element-request_phase, element-processor_phase}
 use Rattle.ultra_model.specs.Words.{IsWord, OfWord, GivesWord, AddsWord, NamesWord, HoldsWords}
 

@@ -1,18 +1,12 @@
 -- which settings are accepted, in the order in which they are looked at, and what they then are
 use Rattle.std.specs.Prelude.{◌≡◌, ℕ, ◌*◌, ◌^◌, ℤ, pos, negsuc, Bool, true, false, not, ◌&&◌, ◌==◌, nat_lt, nat_le, List, [], ◌∷◌, map, codes, Option, Some, None, find, Vec, ◌++◌, ⊤}
-use Rattle.std.specs.List.{list_any, list_all}
-use Rattle.std.specs.declared.alloc.Global.{Global}
-use Rattle.ultra_model.specs.Machine.{Settings}
-use Rattle.ultra_model.specs.declared.config.RawSettings.{RawSettings}
-use Rattle.ultra_model.specs.declared.config.Field.{Field}
+use Rattle.std.specs.{List.{list_any, list_all}, declared.alloc.Global.Global}
+use Rattle.ultra_model.specs.{Machine.Settings, declared.config.{RawSettings.RawSettings, Field.Field, ConfigFault.{ConfigFault, TheVariants.{NoMemory, BadConfig}}, TheConstants.{MOST_CYCLES, MOST_REPLY_PLACES}}}
 use Rattle.ultra_model.specs.declared.config.Field.TheVariants.{Stages, RequestPlaces, ReplyPlaces, WaitPlaces, MostOpen, Cells, Cycles, Initial}
-use Rattle.ultra_model.specs.declared.config.ConfigFault.{ConfigFault}
-use Rattle.ultra_model.specs.declared.config.ConfigFault.TheVariants.{NoMemory, BadConfig}
 use Rattle.ultra_route.specs.declared.TheConstants.{MOST_STAGES}
 use Rattle.ultra_switch.specs.declared.TheConstants.{MOST_REQUEST_PLACES, MOST_WAIT_PLACES}
 use Rattle.ultra_mem.specs.declared.TheConstants.{MOST_CELLS}
 use Rattle.ultra_pni.specs.declared.TheConstants.{MOST_OPEN}
-use Rattle.ultra_model.specs.declared.config.TheConstants.{MOST_CYCLES, MOST_REPLY_PLACES}
 
 -- the key as it is written
 abbrev pub name_of : Field → List ℕ

@@ -2,17 +2,13 @@
 -- network; their registers and limits are this project's profile
 use Rattle.std.specs.Prelude.{ℕ, ◌+◌, ◌-◌, ◌*◌, ◌%◌, ◌^◌, List, [], ◌∷◌, Bool, true, false, ◌&&◌, ◌==◌, Option, Some, None, slice_index_or}
 use Rattle.std.specs.List.{list_all}
-use Rattle.ultra_msg.specs.declared.Request.{Request}
-use Rattle.ultra_msg.specs.declared.ReplyMessage.{ReplyMessage}
-use Rattle.ultra_msg.specs.declared.Event.{Event}
+use Rattle.ultra_msg.specs.declared.{Request.Request, ReplyMessage.ReplyMessage, Event.Event}
 use Rattle.ultra_route.specs.Route.{with_lowest, bit_of}
 use Rattle.ultra_switch.specs.Arrive.{Lane, empty_lane}
 use Rattle.ultra_mem.specs.Serve.{ModuleState, empty_module}
 use Rattle.ultra_pni.specs.Interface.{Interface, empty_interface}
-use Rattle.ultra_isa.specs.Instruction.{Site}
-use Rattle.ultra_isa.specs.Step.{Core, fresh_core, has_stopped}
-use Rattle.ultra_model.specs.declared.Stop.{Stop}
-use Rattle.ultra_model.specs.Places.{places, table, in_table}
+use Rattle.ultra_isa.specs.{Instruction.Site, Step.{Core, fresh_core, has_stopped}}
+use Rattle.ultra_model.specs.{declared.Stop.Stop, Places.{places, table, in_table}}
 
 -- the settings: the stages of the network, and the places of each queue toward memory, of each
 -- queue toward the processing elements and of each wait buffer. Then the maximum number of open

@@ -3,25 +3,14 @@
 -- room rules and their order are this project's profile
 use Rattle.std.specs.Prelude.{ℕ, suc, zero, ◌+◌, ◌-◌, ◌*◌, ◌/◌, ◌%◌, List, [], ◌∷◌, ◌++◌, Bool, true, false, ◌&&◌, ◌==◌, nat_le, length, Option, Some, None, slice_get}
 use Rattle.std.specs.List.{filter}
-use Rattle.ultra_msg.specs.declared.Request.{Request}
-use Rattle.ultra_msg.specs.declared.ReplyMessage.{ReplyMessage}
-use Rattle.ultra_msg.specs.declared.Event.{Event}
-use Rattle.ultra_msg.specs.declared.Event.TheVariants.{Delivered, Served, Combined, Issued}
-use Rattle.ultra_msg.specs.Pair.{pair_of}
+use Rattle.ultra_msg.specs.{declared.{Request.Request, ReplyMessage.ReplyMessage, Event.{Event, TheVariants.{Delivered, Served, Combined, Issued}}}, Pair.pair_of}
 use Rattle.ultra_route.specs.Route.{shuffled, unshuffled}
-use Rattle.ultra_switch.specs.declared.WaitRecord.{WaitRecord}
-use Rattle.ultra_switch.specs.Arrive.{Lane, Combination, combine_within, arrive}
-use Rattle.ultra_switch.specs.Queues.{request_of}
-use Rattle.ultra_switch.specs.Split.{records_after, replies_of}
-use Rattle.ultra_mem.specs.declared.Served.{Served as Act}
-use Rattle.ultra_mem.specs.Serve.{ModuleState, serve, served}
+use Rattle.ultra_switch.specs.{declared.WaitRecord.WaitRecord, Arrive.{Lane, Combination, combine_within, arrive}, Queues.request_of, Split.{records_after, replies_of}}
+use Rattle.ultra_mem.specs.{declared.Served.Served as Act, Serve.{ModuleState, serve, served}}
 use Rattle.ultra_pni.specs.Interface.{target_of, closed}
-use Rattle.ultra_isa.specs.declared.Instr.{Instr}
-use Rattle.ultra_isa.specs.declared.Step.{Step}
+use Rattle.ultra_isa.specs.{declared.{Instr.Instr, Step.Step}, Step.{StepResult, step_of, received}}
 use Rattle.ultra_isa.specs.declared.Step.TheVariants as step
-use Rattle.ultra_isa.specs.Step.{StepResult, step_of, received}
-use Rattle.ultra_model.specs.declared.Stop.{Stop}
-use Rattle.ultra_model.specs.Places.{places, table, after_leaving, present, joined}
+use Rattle.ultra_model.specs.{declared.Stop.Stop, Places.{places, table, after_leaving, present, joined}}
 use Rattle.ultra_model.specs.Machine.{Settings, Machine, Element, size, last_stage, site, request_exit, reply_exit, lane_at, replies_at, module_at, element_at, start}
 
 -- ---- what a phase does to one processing element, queue or module

@@ -4,8 +4,7 @@ use Rattle.ultra_route.specs.declared.TheConstants.{MOST_STAGES}
 use Rattle.ultra_switch.specs.declared.TheConstants.{MOST_REQUEST_PLACES, MOST_WAIT_PLACES}
 use Rattle.ultra_mem.specs.declared.TheConstants.{MOST_CELLS}
 use Rattle.ultra_pni.specs.declared.TheConstants.{MOST_OPEN}
-use Rattle.ultra_model.specs.declared.config.TheConstants.{MOST_REPLY_PLACES}
-use Rattle.ultra_model.specs.Machine.{Settings, size}
+use Rattle.ultra_model.specs.{declared.config.TheConstants.MOST_REPLY_PLACES, Machine.{Settings, size}}
 
 -- there are 1 to 6 stages. A queue toward memory has 2 to 32 places, one toward the processing
 -- elements 4 to 64, a wait buffer 0 to 16. The maximum number of open cells is 1 to 8, and a module

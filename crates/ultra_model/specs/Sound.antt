@@ -1,9 +1,5 @@
 -- what holds of a machine at the start and after each phase of each cycle
-use Rattle.ultra_model.specs.Machine.{Settings, Machine}
-use Rattle.ultra_model.specs.Shape.{HasShape}
-use Rattle.ultra_model.specs.Capacity.{IsWithinCapacity}
-use Rattle.ultra_model.specs.Routed.{IsRouted}
-use Rattle.ultra_model.specs.Balance.{IsBalanced}
+use Rattle.ultra_model.specs.{Machine.{Settings, Machine}, Shape.HasShape, Capacity.IsWithinCapacity, Routed.IsRouted, Balance.IsBalanced}
 
 pub record IsSound (c : Settings) (m : Machine) : Type 0 where
   pub shape : HasShape c m

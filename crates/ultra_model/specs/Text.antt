@@ -2,20 +2,11 @@
 -- of bytes; this project's profile
 use Rattle.std.specs.Prelude.{ℕ, zero, suc, List, [], ◌∷◌, ◌++◌, Bool, true, false, codes, decimal}
 use Rattle.std.specs.List.{flat_map}
-use Rattle.ultra_msg.specs.declared.Op.{Op}
-use Rattle.ultra_msg.specs.declared.Op.TheVariants.{Load, Store, Faa, Swap}
-use Rattle.ultra_msg.specs.declared.Request.{Request}
-use Rattle.ultra_msg.specs.declared.Reply.{Reply}
+use Rattle.ultra_msg.specs.declared.{Op.{Op, TheVariants.{Load, Store, Faa, Swap}}, Request.Request, Reply.Reply, ReplyMessage.ReplyMessage, Give.Give}
 use Rattle.ultra_msg.specs.declared.Reply.TheVariants as reply
-use Rattle.ultra_msg.specs.declared.ReplyMessage.{ReplyMessage}
-use Rattle.ultra_msg.specs.declared.Give.{Give}
 use Rattle.ultra_msg.specs.declared.Give.TheVariants as give
-use Rattle.ultra_switch.specs.declared.QueueEntry.{QueueEntry}
-use Rattle.ultra_switch.specs.declared.WaitRecord.{WaitRecord}
-use Rattle.ultra_isa.specs.declared.MachineFault.{MachineFault}
-use Rattle.ultra_isa.specs.declared.MachineFault.TheVariants.{AddressOutOfRange, PastEnd}
-use Rattle.ultra_isa.specs.declared.Activity.{Activity}
-use Rattle.ultra_isa.specs.declared.Activity.TheVariants.{Running, Halted, Faulted}
+use Rattle.ultra_switch.specs.declared.{QueueEntry.QueueEntry, WaitRecord.WaitRecord}
+use Rattle.ultra_isa.specs.declared.{MachineFault.{MachineFault, TheVariants.{AddressOutOfRange, PastEnd}}, Activity.{Activity, TheVariants.{Running, Halted, Faulted}}}
 pub use Rattle.ultra_msg.specs.Bytes.{newline}
 
 -- an operation

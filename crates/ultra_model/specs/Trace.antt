@@ -1,19 +1,12 @@
 -- the trace: what is written of a run, cycle by cycle; this project's profile
 use Rattle.std.specs.Prelude.{ℕ, zero, suc, ◌+◌, ◌-◌, ◌*◌, ◌/◌, ◌%◌, List, [], ◌∷◌, ◌++◌, Bool, true, false, Option, Some, None, slice_index, codes, decimal}
-use Rattle.std.specs.List.{range_with_len, flat_map, find}
-use Rattle.std.specs.Option.{unwrap_or}
-use Rattle.ultra_msg.specs.declared.Request.{Request}
-use Rattle.ultra_msg.specs.declared.ReplyMessage.{ReplyMessage}
-use Rattle.ultra_msg.specs.declared.Event.{Event}
-use Rattle.ultra_msg.specs.declared.Event.TheVariants.{Delivered, Served, Combined, Issued}
-use Rattle.ultra_switch.specs.declared.QueueEntry.{QueueEntry}
-use Rattle.ultra_switch.specs.declared.WaitRecord.{WaitRecord}
+use Rattle.std.specs.{List.{range_with_len, flat_map, find}, Option.unwrap_or}
+use Rattle.ultra_msg.specs.declared.{Request.Request, ReplyMessage.ReplyMessage, Event.{Event, TheVariants.{Delivered, Served, Combined, Issued}}}
+use Rattle.ultra_switch.specs.declared.{QueueEntry.QueueEntry, WaitRecord.WaitRecord}
 use Rattle.ultra_mem.specs.declared.Placed.{Placed}
-use Rattle.ultra_isa.specs.declared.Instr.{Instr}
-use Rattle.ultra_isa.specs.Step.{Core}
-use Rattle.ultra_model.specs.declared.Stop.{Stop}
+use Rattle.ultra_isa.specs.{declared.Instr.Instr, Step.Core}
+use Rattle.ultra_model.specs.{declared.Stop.Stop, Phases.after}
 use Rattle.ultra_model.specs.Machine.{Settings, Machine, size, lane_at, replies_at, module_at, element_at, is_quiet}
-use Rattle.ultra_model.specs.Phases.{after}
 use Rattle.ultra_model.specs.Text.{newline, request_text, entry_text, reply_text, message_text, record_text, fault_text, activity_text, comma_separated}
 
 -- ---- what happened in the cycle

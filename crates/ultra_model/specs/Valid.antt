@@ -1,8 +1,6 @@
 -- which settings are accepted: this project's profile
 use Rattle.std.specs.Prelude.{◌≢◌, ℕ, ◌^◌, ◌<◌, ◌≤◌, All, AllPairs}
-use Rattle.ultra_model.specs.Machine.{Settings}
-use Rattle.ultra_model.specs.Ranges.{AreInRange}
-use Rattle.ultra_model.specs.declared.config.TheConstants.{MOST_CYCLES}
+use Rattle.ultra_model.specs.{Machine.Settings, Ranges.AreInRange, declared.config.TheConstants.MOST_CYCLES}
 
 -- the machine's settings are in their ranges and cycles are 1 to 1,000,000; of the initial cells
 -- each is given a word, and none is given two

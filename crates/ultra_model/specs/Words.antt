@@ -1,16 +1,10 @@
 -- everything that a machine holds is a word of 32 bits: this project's profile
-use Rattle.std.specs.Prelude.{ℕ, ◌^◌, ◌<◌, IfSome}
-use Rattle.std.specs.List.{AllByRecursion}
-use Rattle.ultra_msg.specs.declared.Op.{Op}
+use Rattle.std.specs.{Prelude.{ℕ, ◌^◌, ◌<◌, IfSome}, List.AllByRecursion}
+use Rattle.ultra_msg.specs.declared.{Op.Op, Reply.Reply, Give.Give, Request.Request, ReplyMessage.ReplyMessage}
 use Rattle.ultra_msg.specs.declared.Op.TheVariants as op
-use Rattle.ultra_msg.specs.declared.Reply.{Reply}
 use Rattle.ultra_msg.specs.declared.Reply.TheVariants as reply
-use Rattle.ultra_msg.specs.declared.Give.{Give}
 use Rattle.ultra_msg.specs.declared.Give.TheVariants as give
-use Rattle.ultra_msg.specs.declared.Request.{Request}
-use Rattle.ultra_msg.specs.declared.ReplyMessage.{ReplyMessage}
-use Rattle.ultra_switch.specs.declared.QueueEntry.{QueueEntry}
-use Rattle.ultra_switch.specs.declared.WaitRecord.{WaitRecord}
+use Rattle.ultra_switch.specs.declared.{QueueEntry.QueueEntry, WaitRecord.WaitRecord}
 use Rattle.ultra_mem.specs.declared.Placed.{Placed}
 use Rattle.ultra_isa.specs.declared.Instr.{Instr}
 use Rattle.ultra_isa.specs.declared.Instr.TheVariants.{Set, Add, AddWord, Subtract, And, ShiftRight, IsBelow, IsEqual, JumpIfZero, JumpIfNotZero, Jump, Number, Size, Load, Store, Faa, Swap, Fence, Halt}

@@ -138,8 +138,7 @@ pub struct Config {
 }
 
 impl Model for Config {
-    ghost use Rattle.ultra_model.specs.Machine.{Settings};
-    ghost use Rattle.ultra_model.specs.Valid.{IsValid};
+    ghost use Rattle.ultra_model.specs.{Machine.Settings, Valid.IsValid};
 
     ghost Value = { Settings };
 

@@ -1,7 +1,6 @@
 -- bytes that go to a sink; this project's profile
 use Rattle.std.specs.Prelude.{◌≡◌, ◌≤◌, ◌<◌, ◌+◌, ℕ, List, [], ◌∷◌, ◌++◌, take, length, Result, OnOk, OnErr}
-use Rattle.std.specs.Borrow.{Bor}
-use Rattle.std.specs.List.{flat_map}
+use Rattle.std.specs.{Borrow.Bor, List.flat_map}
 
 -- a line's end
 abbrev pub newline : List ℕ

@@ -1,9 +1,6 @@
 -- messages as words: what stands for an operation and for a reply
 use Rattle.std.specs.Prelude.{◌≡◌, ℕ, zero, suc}
-use Rattle.ultra_msg.specs.declared.Op.{Op}
-use Rattle.ultra_msg.specs.declared.Op.TheVariants.{Load, Store, Faa, Swap}
-use Rattle.ultra_msg.specs.declared.Reply.{Reply}
-use Rattle.ultra_msg.specs.declared.Reply.TheVariants.{Value, Ack}
+use Rattle.ultra_msg.specs.declared.{Op.{Op, TheVariants.{Load, Store, Faa, Swap}}, Reply.{Reply, TheVariants.{Value, Ack}}}
 
 -- ---- an operation: its kind, and its operand
 abbrev pub op_of : ℕ → ℕ → Op

@@ -3,8 +3,7 @@
 #![tactic(auto)]
 
 ghost use Rattle.std.specs.Prelude.{◌≡◌, ℕ, ◌^◌, ◌<◌, ◌≤◌, IfSome, IfNone, not};
-ghost use Rattle.ultra_msg.specs.Act.{reply_given};
-ghost use Rattle.ultra_msg.specs.Pair.{pair_of, is_fixed, KeepsBoth};
+ghost use Rattle.ultra_msg.specs.{Act.reply_given, Pair.{pair_of, is_fixed, KeepsBoth}};
 
 mod packet;
 mod pieces;

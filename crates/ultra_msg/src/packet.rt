@@ -17,8 +17,7 @@ pub struct RequestPacket {
 }
 
 impl Model for RequestPacket {
-    ghost use Rattle.ultra_msg.specs.declared.Request.{Request};
-    ghost use Rattle.ultra_msg.specs.Packet.{IsOp, kind_of, op_of, word_of};
+    ghost use Rattle.ultra_msg.specs.{declared.Request.Request, Packet.{IsOp, kind_of, op_of, word_of}};
 
     ghost Value = { Request };
 
@@ -109,8 +108,7 @@ pub struct ReplyPacket {
 }
 
 impl Model for ReplyPacket {
-    ghost use Rattle.ultra_msg.specs.declared.ReplyMessage.{ReplyMessage};
-    ghost use Rattle.ultra_msg.specs.Packet.{IsReply, kind_of_reply, reply_of, word_of_reply};
+    ghost use Rattle.ultra_msg.specs.{declared.ReplyMessage.ReplyMessage, Packet.{IsReply, kind_of_reply, reply_of, word_of_reply}};
 
     ghost Value = { ReplyMessage };
 

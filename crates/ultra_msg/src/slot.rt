@@ -13,8 +13,7 @@ pub struct Slot<T> {
 }
 
 impl<T> Model for Slot<T> {
-    ghost use Rattle.std.specs.Prelude.{Option};
-    ghost use Rattle.std.specs.Coded.{coded_option};
+    ghost use Rattle.std.specs.{Prelude.Option, Coded.coded_option};
     ghost use Rattle.ultra_msg.specs.Slot.{item_if};
 
     ghost Value = { Option T };

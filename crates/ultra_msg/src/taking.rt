@@ -1,7 +1,6 @@
 //! Short lists, from which an item is taken.
 
-ghost use Rattle.std.specs.Prelude.{◌≡◌, ◌<◌, length, slice_index_or};
-ghost use Rattle.std.specs.List.{remove};
+ghost use Rattle.std.specs.{Prelude.{◌≡◌, ◌<◌, length, slice_index_or}, List.remove};
 
 use arrayvec::ArrayVec;
 

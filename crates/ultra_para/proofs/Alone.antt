@@ -3,12 +3,8 @@ use Rattle.std.proofs.Common.{◌≡◌, ◌≢◌, ℕ, zero, suc, ◌+◌, ◌
 use Rattle.std.specs.Prelude.{Option, Some, None, slice_get, nat_lt, ◌&&◌, ◌||◌, not, ◌==◌}
 use Rattle.std.specs.List.{list_any}
 use Rattle.ultra_msg.specs.declared.Request.{Request}
-use Rattle.ultra_pni.specs.declared.OpenCell.{OpenCell}
-use Rattle.ultra_pni.specs.declared.Issue.TheVariants.{Sent}
-use Rattle.ultra_pni.specs.Interface.{Interface, empty_interface, is_awaited, issue_of}
-use Rattle.ultra_isa.specs.declared.Instr.{Instr}
-use Rattle.ultra_isa.specs.declared.Instr.TheVariants.{Load, Store, Faa, Swap, Fence}
-use Rattle.ultra_isa.specs.declared.Activity.{Activity}
+use Rattle.ultra_pni.specs.{declared.{OpenCell.OpenCell, Issue.TheVariants.Sent}, Interface.{Interface, empty_interface, is_awaited, issue_of}}
+use Rattle.ultra_isa.specs.declared.{Instr.{Instr, TheVariants.{Load, Store, Faa, Swap, Fence}}, Activity.Activity}
 use Rattle.ultra_isa.specs.declared.Activity.TheVariants as activity
 use Rattle.ultra_isa.specs.declared.Step.TheVariants as step
 use Rattle.ultra_isa.specs.Instruction.{Site, names, Effect, sets, goes_on_at, refers, waits, halts, effect}

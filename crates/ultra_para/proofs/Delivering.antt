@@ -3,21 +3,12 @@ use Rattle.std.proofs.Common.{◌≡◌, ℕ, ◌≤◌, List, [], ◌∷◌, tr
 use Rattle.std.specs.Prelude.{◌==◌}
 use Rattle.std.proofs.lemmas.Bool.{cases_eq}
 use Rattle.ultra_msg.specs.declared.ReplyMessage.{ReplyMessage}
-use Rattle.ultra_pni.specs.declared.OpenCell.{OpenCell}
-use Rattle.ultra_pni.specs.Interface.{target_of, closed}
-use Rattle.ultra_isa.specs.declared.Instr.{Instr}
-use Rattle.ultra_isa.specs.Step.{Core, received}
-use Rattle.ultra_model.specs.Machine.{Settings}
-use Rattle.ultra_model.specs.Balance.{weight, count}
+use Rattle.ultra_pni.specs.{declared.OpenCell.OpenCell, Interface.{target_of, closed}}
+use Rattle.ultra_isa.specs.{declared.Instr.Instr, Step.{Core, received}}
+use Rattle.ultra_model.specs.{Machine.Settings, Balance.{weight, count}}
 use Rattle.ultra_model.proofs.Neighbours.{itself, other}
-use Rattle.ultra_serial_law.specs.declared.LoggedIssue.{LoggedIssue}
-use Rattle.ultra_serial_law.specs.declared.Entry.{Entry as Done}
-use Rattle.ultra_serial_law.specs.Log.{latest_number}
-use Rattle.ultra_serial_law.specs.Legal.{leaf_of_entry}
-use Rattle.ultra_serial_law.proofs.Explained.{IsIn}
-use Rattle.ultra_serial_law.proofs.Issued.{is_named}
-use Rattle.ultra_serial_law.proofs.LaneForest.{in_counts}
-use Rattle.ultra_serial_law.proofs.Tidy.{that_is}
+use Rattle.ultra_serial_law.specs.{declared.{LoggedIssue.LoggedIssue, Entry.Entry as Done}, Log.latest_number, Legal.leaf_of_entry}
+use Rattle.ultra_serial_law.proofs.{Explained.IsIn, Issued.is_named, LaneForest.in_counts, Tidy.that_is}
 use Rattle.ultra_para.proofs.Relation.{IsWaiting, State, opening}
 
 -- two in a list of what is counted once are one

@@ -4,48 +4,21 @@
 use Rattle.std.proofs.Common.{◌≡◌, ℕ, zero, suc, ◌*◌, ◌<◌, ◌≤◌, List, [], ◌∷◌, ◌++◌, map, true, refl, arith, sym, ◌∙◌, ap, subst, inl, inr}
 use Rattle.std.specs.Prelude.{Option, Some, None, IfSome, All, ◌==◌}
 use Rattle.std.specs.List.{AllByRecursion}
-use Rattle.ultra_msg.specs.declared.Request.{Request}
-use Rattle.ultra_msg.specs.declared.ReplyMessage.{ReplyMessage}
-use Rattle.ultra_msg.specs.declared.Event.{Event}
-use Rattle.ultra_msg.specs.declared.Event.TheVariants.{Issued}
+use Rattle.ultra_msg.specs.declared.{Request.Request, ReplyMessage.ReplyMessage, Event.{Event, TheVariants.Issued}}
 use Rattle.ultra_pni.specs.declared.OpenCell.{OpenCell}
-use Rattle.ultra_isa.specs.declared.Instr.{Instr}
-use Rattle.ultra_isa.specs.Step.{Core, fresh_core}
+use Rattle.ultra_isa.specs.{declared.Instr.Instr, Step.{Core, fresh_core}}
 use Rattle.ultra_route.specs.Route.{shuffled}
-use Rattle.ultra_model.specs.Places.{places, present}
+use Rattle.ultra_model.specs.{Places.{places, present}, Ranges.AreInRange, Balance.count}
 use Rattle.ultra_model.specs.Machine.{Settings, Machine, Element, size, given_value, element_at}
 use Rattle.ultra_model.specs.Phases.{deliver, delivered, without_pending, step_at, arriving_request, issue_event, reply_phase, memory_phase, request_phase, processor_phase, cycle, after}
-use Rattle.ultra_model.specs.Ranges.{AreInRange}
-use Rattle.ultra_model.specs.Balance.{count}
-use Rattle.ultra_model.proofs.Each.{each-append, each-weaker, each-right, places_at, length-places}
-use Rattle.ultra_model.proofs.AtPlaces.{element-start, element-reply_phase, element-memory_phase, element-request_phase, element-processor_phase}
-use Rattle.ultra_model.proofs.ReplyBalance.{delivered_open}
-use Rattle.ultra_serial_law.specs.declared.LoggedIssue.{LoggedIssue}
-use Rattle.ultra_serial_law.specs.declared.Entry.{Entry as Done}
-use Rattle.ultra_serial_law.specs.declared.NamedRequest.{NamedRequest}
-use Rattle.ultra_serial_law.specs.Log.{latest_number}
+use Rattle.ultra_model.proofs.{Each.{each-append, each-weaker, each-right, places_at, length-places}, AtPlaces.{element-start, element-reply_phase, element-memory_phase, element-request_phase, element-processor_phase}, ReplyBalance.delivered_open}
+use Rattle.ultra_serial_law.specs.{declared.{LoggedIssue.LoggedIssue, Entry.Entry as Done, NamedRequest.NamedRequest}, Log.latest_number, SerialList.{History, noted, history}}
 use Rattle.ultra_serial_law.specs.Legal.{Cells, given, answered_by, leaf_of_entry, cells_after, replayed}
-use Rattle.ultra_serial_law.specs.SerialList.{History, noted, history}
-use Rattle.ultra_serial_law.proofs.Forest.{leaf_of}
-use Rattle.ultra_serial_law.proofs.Explained.{IsIn, in-append}
-use Rattle.ultra_serial_law.proofs.Mentions.{in-places}
-use Rattle.ultra_serial_law.proofs.MemoryForest.{noted-append}
-use Rattle.ultra_serial_law.proofs.ProcessorForest.{issues_noted, noted_issues}
-use Rattle.ultra_serial_law.proofs.RequestForest.{in_holds}
-use Rattle.ultra_serial_law.proofs.Named.{IsNoIssue, IsLogged, AreLogged, noted_logged}
+use Rattle.ultra_serial_law.proofs.{Forest.leaf_of, Explained.{IsIn, in-append}, Mentions.in-places, MemoryForest.noted-append, ProcessorForest.{issues_noted, noted_issues}, RequestForest.in_holds, Named.{IsNoIssue, IsLogged, AreLogged, noted_logged}, Answered.{IsNoAct, same_order}, Lists.{count_replayed, each_replayed}, Replays.replayed-append}
 use Rattle.ultra_serial_law.proofs.Issued.{is_named, IsEarlier, same_issues, NewIssue, each_issued, sent_own}
-use Rattle.ultra_serial_law.proofs.Answered.{IsNoAct, same_order}
-use Rattle.ultra_serial_law.proofs.Lists.{count_replayed, each_replayed}
-use Rattle.ultra_serial_law.proofs.Replays.{replayed-append}
 use Rattle.ultra_serial_law.proofs.Law.{IsSerial, serial_after, grows-noted, deliveries, servings, meetings, issues_of, any_delivery, each_serving, each_meeting, events_of, delivered_entry, history_next, given_is}
-use Rattle.ultra_para.specs.Para.{Para, core_at, start_para, run_para}
-use Rattle.ultra_para.specs.Careful.{is_careful}
-use Rattle.ultra_para.specs.Law.{IsReached, ParacomputerLaw}
-use Rattle.ultra_para.proofs.Relation.{IsWaiting, State, AreRelated, opening}
-use Rattle.ultra_para.proofs.Schedules.{run-append}
-use Rattle.ultra_para.proofs.Serving.{serve_all}
-use Rattle.ultra_para.proofs.Delivering.{state_delivered}
-use Rattle.ultra_para.proofs.Stepping.{IsNewOf, turn, Turns, IsReachedFrom, all_turns}
+use Rattle.ultra_para.specs.{Para.{Para, core_at, start_para, run_para}, Careful.is_careful, Law.{IsReached, ParacomputerLaw}}
+use Rattle.ultra_para.proofs.{Relation.{IsWaiting, State, AreRelated, opening}, Schedules.run-append, Serving.serve_all, Delivering.state_delivered, Stepping.{IsNewOf, turn, Turns, IsReachedFrom, all_turns}}
 
 in-present : {X : Type 0} (x : X) (os : List (Option X)) → IsIn (Some x) os → IsIn x (present os)
 in-present x [] h = absurd h

@@ -1,20 +1,13 @@
 -- a step of a paracomputer with its processors
 use Rattle.std.proofs.Common.{◌≡◌, ℕ, ◌*◌, ◌<◌, List, arith, sym, ◌∙◌, ap}
-use Rattle.std.specs.Prelude.{slice_index_or, slice_set}
-use Rattle.std.specs.List.{range_with_len}
-use Rattle.std.proofs.lemmas.List.{map-set, get_or-map}
-use Rattle.std.proofs.lemmas.Simd.{map-map}
+use Rattle.std.specs.{Prelude.{slice_index_or, slice_set}, List.range_with_len}
+use Rattle.std.proofs.lemmas.{List.{map-set, get_or-map}, Simd.map-map}
 use Rattle.ultra_pni.specs.Interface.{empty_interface}
-use Rattle.ultra_isa.specs.declared.Instr.{Instr}
-use Rattle.ultra_isa.specs.Instruction.{Site}
-use Rattle.ultra_isa.specs.Step.{ProcessorState, Core, fresh_core, StepResult, step_of}
-use Rattle.ultra_model.specs.Places.{places}
-use Rattle.ultra_model.specs.Machine.{Settings, size, site, given_value}
+use Rattle.ultra_isa.specs.{declared.Instr.Instr, Instruction.Site, Step.{ProcessorState, Core, fresh_core, StepResult, step_of}}
+use Rattle.ultra_model.specs.{Places.places, Machine.{Settings, size, site, given_value}}
 use Rattle.ultra_model.proofs.Each.{places_at, length-places}
 use Rattle.ultra_para.specs.Para.{Para, core_at, cells_acted, core_answered, after_alone, start_para, para_step}
-use Rattle.ultra_para.specs.declared.at_once.StepReport.{StepReport}
-use Rattle.ultra_para.specs.Report.{report_with, step_report}
-use Rattle.ultra_para.specs.ParaState.{ParaState, programmed, cores_of, fresh_processors, HasAllParts}
+use Rattle.ultra_para.specs.{declared.at_once.StepReport.StepReport, Report.{report_with, step_report}, ParaState.{ParaState, programmed, cores_of, fresh_processors, HasAllParts}}
 
 module _ (c : Settings) (program : List Instr) (cells : List ℕ) (ps : List ProcessorState) (w : HasAllParts c cells ps) (p : ℕ) (hp : p < size c) where
   abbrev core : ProcessorState → Core

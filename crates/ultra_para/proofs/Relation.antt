@@ -1,21 +1,13 @@
 -- the relation between the machine and the paracomputer: what each processing element waits for, and whether the serial list has it already
 use Rattle.std.proofs.Common.{◌≡◌, ◌≢◌, ℕ, suc, ◌*◌, ◌<◌, List, [], ◌∷◌, ◌++◌, length, ◌∙◌, ap, subst, ◌⊎◌, inl, inr}
-use Rattle.std.specs.Prelude.{Option, Some, None, slice_get, slice_index}
-use Rattle.std.specs.List.{AllByRecursion}
+use Rattle.std.specs.{Prelude.{Option, Some, None, slice_get, slice_index}, List.AllByRecursion}
 use Rattle.ultra_msg.specs.declared.Request.{Request}
-use Rattle.ultra_pni.specs.declared.OpenCell.{OpenCell}
-use Rattle.ultra_pni.specs.Interface.{Interface, empty_interface, target_of}
-use Rattle.ultra_isa.specs.declared.Instr.{Instr}
-use Rattle.ultra_isa.specs.declared.Instr.TheVariants.{Fence}
-use Rattle.ultra_isa.specs.declared.Activity.TheVariants.{Running}
-use Rattle.ultra_isa.specs.Step.{Core, received}
+use Rattle.ultra_pni.specs.{declared.OpenCell.OpenCell, Interface.{Interface, empty_interface, target_of}}
+use Rattle.ultra_isa.specs.{declared.{Instr.{Instr, TheVariants.Fence}, Activity.TheVariants.Running}, Step.{Core, received}}
 use Rattle.ultra_isa.proofs.Steps.{SendsInto, step_is}
 use Rattle.ultra_model.specs.Machine.{Settings, Element, size, site}
 use Rattle.ultra_model.proofs.Each.{each-weaker}
-use Rattle.ultra_serial_law.specs.declared.LoggedIssue.{LoggedIssue}
-use Rattle.ultra_serial_law.specs.declared.Entry.{Entry as Done}
-use Rattle.ultra_serial_law.specs.Log.{latest_number}
-use Rattle.ultra_serial_law.specs.Legal.{Cells}
+use Rattle.ultra_serial_law.specs.{declared.{LoggedIssue.LoggedIssue, Entry.Entry as Done}, Log.latest_number, Legal.Cells}
 use Rattle.ultra_serial_law.proofs.Explained.{IsIn, in-append}
 use Rattle.ultra_para.specs.Para.{Para, core_at, alone}
 

@@ -1,11 +1,9 @@
 -- worked runs of the paracomputer
 use Rattle.std.specs.Prelude.{◌≡◌, List, [], ◌∷◌, true, false, refl, slice_index}
-use Rattle.ultra_isa.specs.declared.Instr.{Instr}
-use Rattle.ultra_isa.specs.declared.Instr.TheVariants.{Set, Faa, Swap, Fence, Halt}
+use Rattle.ultra_isa.specs.declared.Instr.{Instr, TheVariants.{Set, Faa, Swap, Fence, Halt}}
 use Rattle.ultra_model.specs.Places.{places}
 use Rattle.ultra_model.proofs.Pairs.{one_stage, add_one}
-use Rattle.ultra_para.specs.Para.{Para, core_at, start_para, run_para}
-use Rattle.ultra_para.specs.Careful.{is_careful}
+use Rattle.ultra_para.specs.{Para.{Para, core_at, start_para, run_para}, Careful.is_careful}
 
 -- two steps to the operation and the operation: 0 is served first
 add_in_turn : Para

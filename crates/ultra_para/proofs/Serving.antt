@@ -2,30 +2,15 @@
 use Rattle.std.proofs.Common.{◌≡◌, ℕ, ◌*◌, ◌<◌, ◌≤◌, List, [], ◌∷◌, ◌++◌, length, map, true, false, Bool, refl, arith, sym, ◌∙◌, ap, subst, ◌⊎◌, inl, inr, ⊎_elim, append_assoc}
 use Rattle.std.specs.Prelude.{Some, None, slice_index, slice_index_or, slice_set, ◌==◌}
 use Rattle.std.specs.List.{AllByRecursion}
-use Rattle.std.proofs.lemmas.Bool.{cases_eq}
-use Rattle.std.proofs.lemmas.List.{get_or-set_same, get_or-set_other, length-set, append-nil}
-use Rattle.ultra_msg.specs.declared.Request.{Request}
-use Rattle.ultra_msg.specs.Act.{act}
+use Rattle.std.proofs.lemmas.{Bool.cases_eq, List.{get_or-set_same, get_or-set_other, length-set, append-nil}}
+use Rattle.ultra_msg.specs.{declared.Request.Request, Act.act}
 use Rattle.ultra_pni.specs.Interface.{target_of}
-use Rattle.ultra_isa.specs.declared.Instr.{Instr}
-use Rattle.ultra_isa.specs.Step.{Core, fresh_core, received}
-use Rattle.ultra_model.specs.Machine.{Settings, Element, size}
-use Rattle.ultra_model.specs.Balance.{weight, count}
-use Rattle.ultra_model.proofs.Each.{each-weaker}
-use Rattle.ultra_model.proofs.Counting.{count-append}
-use Rattle.ultra_model.proofs.Neighbours.{itself}
-use Rattle.ultra_serial_law.specs.declared.NamedRequest.{NamedRequest}
-use Rattle.ultra_serial_law.specs.declared.LoggedIssue.{LoggedIssue}
-use Rattle.ultra_serial_law.specs.declared.Entry.{Entry as Done}
+use Rattle.ultra_isa.specs.{declared.Instr.Instr, Step.{Core, fresh_core, received}}
+use Rattle.ultra_model.specs.{Machine.{Settings, Element, size}, Balance.{weight, count}}
+use Rattle.ultra_model.proofs.{Each.each-weaker, Counting.count-append, Neighbours.itself}
+use Rattle.ultra_serial_law.specs.declared.{NamedRequest.NamedRequest, LoggedIssue.LoggedIssue, Entry.Entry as Done}
 use Rattle.ultra_serial_law.specs.Legal.{Cells, with_cell, answered_by, cells_after, replayed, leaf_of_entry}
-use Rattle.ultra_serial_law.proofs.Explained.{in-append, in-append_right}
-use Rattle.ultra_serial_law.proofs.Issued.{is_named}
-use Rattle.ultra_serial_law.proofs.Named.{IsLogged}
-use Rattle.ultra_serial_law.proofs.RequestForest.{in_holds}
-use Rattle.ultra_serial_law.proofs.LaneForest.{in_counts}
-use Rattle.ultra_serial_law.proofs.Lists.{count_replayed}
-use Rattle.ultra_serial_law.proofs.Tidy.{that_is}
-use Rattle.ultra_serial_law.proofs.Replays.{cells-append, replayed-append, with_other}
+use Rattle.ultra_serial_law.proofs.{Explained.{in-append, in-append_right}, Issued.is_named, Named.IsLogged, RequestForest.in_holds, LaneForest.in_counts, Lists.count_replayed, Tidy.that_is, Replays.{cells-append, replayed-append, with_other}}
 use Rattle.ultra_para.specs.Para.{Para, core_at, cells_acted, core_answered, alone, after_alone, para_step, run_para}
 use Rattle.ultra_para.proofs.Relation.{IsServed, IsServedIssue, IsServedOr, IsAsking, IsActed, State, AreRelated, state_other, IsOpening, opening}
 

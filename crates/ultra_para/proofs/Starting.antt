@@ -1,12 +1,9 @@
 -- the cells filled with the initial values, and the processors made, in order
 use Rattle.std.proofs.Common.{◌≡◌, ◌≢◌, ℕ, zero, suc, ◌+◌, ◌*◌, ◌<◌, List, [], ◌∷◌, ◌++◌, true, false, refl, inl, inr, arith, ap, ◌∙◌, sym, length, get_or, set, replicate, map}
-use Rattle.std.specs.Prelude.{◌==◌, ◌⊎◌}
-use Rattle.std.specs.List.{range_with_len}
-use Rattle.std.proofs.lemmas.List.{same_lists, length-set, get_or-set_same, get_or-set_other}
-use Rattle.std.proofs.lemmas.Bool.{cases_eq, eq-eqb, ne_eqb}
+use Rattle.std.specs.{Prelude.{◌==◌, ◌⊎◌}, List.range_with_len}
+use Rattle.std.proofs.lemmas.{List.{same_lists, length-set, get_or-set_same, get_or-set_other}, Bool.{cases_eq, eq-eqb, ne_eqb}}
 use Rattle.ultra_isa.specs.Step.{ProcessorState, fresh_core}
-use Rattle.ultra_model.specs.Places.{places}
-use Rattle.ultra_model.specs.Machine.{Settings, size, site, given_value}
+use Rattle.ultra_model.specs.{Places.places, Machine.{Settings, size, site, given_value}}
 use Rattle.ultra_model.proofs.Each.{places_at, places_none, places_more, length-places}
 
 -- the processors below a number

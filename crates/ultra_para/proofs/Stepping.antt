@@ -3,35 +3,18 @@
 use Rattle.std.proofs.Common.{◌≡◌, ℕ, zero, suc, ◌+◌, ◌*◌, ◌<◌, ◌≤◌, List, [], ◌∷◌, ◌++◌, length, true, false, Bool, refl, arith, sym, ◌∙◌, ap, subst, ◌⊎◌, inl, inr, ⊎_elim}
 use Rattle.std.specs.Prelude.{Option, Some, None, IfSome, slice_get, slice_index, slice_index_or, slice_set}
 use Rattle.std.specs.List.{AllByRecursion}
-use Rattle.std.proofs.lemmas.Bool.{cases_lt, cases_Bool}
-use Rattle.std.proofs.lemmas.List.{get_or-set_same, get_or-set_other, length-set}
-use Rattle.ultra_msg.specs.declared.Request.{Request}
-use Rattle.ultra_msg.specs.declared.Event.{Event}
-use Rattle.ultra_msg.specs.declared.Event.TheVariants.{Delivered, Served, Combined, Issued}
-use Rattle.ultra_pni.specs.declared.OpenCell.{OpenCell}
-use Rattle.ultra_pni.specs.Interface.{Interface}
-use Rattle.ultra_isa.specs.declared.Instr.{Instr}
+use Rattle.std.proofs.lemmas.{Bool.{cases_lt, cases_Bool}, List.{get_or-set_same, get_or-set_other, length-set}}
+use Rattle.ultra_msg.specs.declared.{Request.Request, Event.{Event, TheVariants.{Delivered, Served, Combined, Issued}}}
+use Rattle.ultra_pni.specs.{declared.OpenCell.OpenCell, Interface.Interface}
+use Rattle.ultra_isa.specs.{declared.Instr.Instr, Step.{Core, fresh_core, StepResult, stays, step_of}}
 use Rattle.ultra_isa.specs.declared.Step.TheVariants as step
-use Rattle.ultra_isa.specs.Step.{Core, fresh_core, StepResult, stays, step_of}
-use Rattle.ultra_model.specs.Machine.{Settings, Element, size, site}
-use Rattle.ultra_model.specs.Phases.{issues_after as count_after}
-use Rattle.ultra_model.proofs.Each.{each-weaker}
-use Rattle.ultra_model.proofs.Counting.{is_reference}
-use Rattle.ultra_serial_law.specs.declared.LoggedIssue.{LoggedIssue}
-use Rattle.ultra_serial_law.specs.declared.Entry.{Entry as Done}
-use Rattle.ultra_serial_law.specs.Log.{latest_number, is_issue_for}
-use Rattle.ultra_serial_law.specs.Legal.{Cells, leaf_of_entry}
-use Rattle.ultra_serial_law.proofs.Explained.{IsIn}
-use Rattle.ultra_serial_law.proofs.Issued.{NewIssue, each_issue}
-use Rattle.ultra_serial_law.proofs.Named.{IsLogged}
-use Rattle.ultra_serial_law.proofs.Tidy.{is_that, that_is}
-use Rattle.ultra_serial_law.proofs.RequestForest.{in_holds}
-use Rattle.ultra_serial_law.proofs.ProcessorForest.{issues_after, issues_noted}
-use Rattle.ultra_para.specs.Para.{Para, core_at, alone, para_step, run_para}
-use Rattle.ultra_para.specs.Careful.{is_careful}
-use Rattle.ultra_para.proofs.Alone.{same_step, reference_step, careful_next, fence_stalls}
+use Rattle.ultra_model.specs.{Machine.{Settings, Element, size, site}, Phases.issues_after as count_after}
+use Rattle.ultra_model.proofs.{Each.each-weaker, Counting.is_reference}
+use Rattle.ultra_serial_law.specs.{declared.{LoggedIssue.LoggedIssue, Entry.Entry as Done}, Log.{latest_number, is_issue_for}, Legal.{Cells, leaf_of_entry}}
+use Rattle.ultra_serial_law.proofs.{Explained.IsIn, Issued.{NewIssue, each_issue}, Named.IsLogged, Tidy.{is_that, that_is}, RequestForest.in_holds, ProcessorForest.{issues_after, issues_noted}}
+use Rattle.ultra_para.specs.{Para.{Para, core_at, alone, para_step, run_para}, Careful.is_careful}
+use Rattle.ultra_para.proofs.{Alone.{same_step, reference_step, careful_next, fence_stalls}, Serving.step_alone}
 use Rattle.ultra_para.proofs.Relation.{IsServed, IsServedIssue, AreServed, IsServedOr, IsWaiting, IsIdle, IsAsking, IsActed, State, AreRelated, opening, opens_nothing}
-use Rattle.ultra_para.proofs.Serving.{step_alone}
 
 -- ---- what holds of each new issue, made weaker
 new_weaker : (P Q : LoggedIssue → Type 0) (n : ℕ) (es : List Event) → ((i : LoggedIssue) → P i → Q i) → AllByRecursion (NewIssue P n) es → AllByRecursion (NewIssue Q n) es

@@ -1,7 +1,6 @@
 -- careful programs: this project's profile
 use Rattle.std.specs.Prelude.{◌≡◌, ℕ, ◌+◌, ◌<◌, List, [], ◌∷◌, Bool, true, false, ◌&&◌, ◌||◌, not, Option, Some, None, slice_get}
-use Rattle.ultra_isa.specs.declared.Instr.{Instr}
-use Rattle.ultra_isa.specs.declared.Instr.TheVariants.{Load, Store, Faa, Swap, Fence}
+use Rattle.ultra_isa.specs.declared.Instr.{Instr, TheVariants.{Load, Store, Faa, Swap, Fence}}
 
 -- whether an instruction refers to a cell
 abbrev pub refers_to_cell : Instr → Bool

@@ -3,12 +3,8 @@
 use Rattle.std.specs.Prelude.{◌≡◌, ℕ, ◌*◌, ◌<◌, List, [], true, All, slice_index}
 use Rattle.ultra_pni.specs.declared.OpenCell.{OpenCell}
 use Rattle.ultra_isa.specs.declared.Instr.{Instr}
-use Rattle.ultra_model.specs.Machine.{Settings, Machine, size, element_at}
-use Rattle.ultra_model.specs.Phases.{after}
-use Rattle.ultra_model.specs.Ranges.{AreInRange}
-use Rattle.ultra_model.specs.Trace.{cell_value}
-use Rattle.ultra_para.specs.Para.{Para, core_at, start_para, run_para}
-use Rattle.ultra_para.specs.Careful.{is_careful}
+use Rattle.ultra_model.specs.{Machine.{Settings, Machine, size, element_at}, Phases.after, Ranges.AreInRange, Trace.cell_value}
+use Rattle.ultra_para.specs.{Para.{Para, core_at, start_para, run_para}, Careful.is_careful}
 
 -- a processing element that holds these cells open waits for no reply
 abbrev pub WaitsForNothing : List OpenCell → Type 0

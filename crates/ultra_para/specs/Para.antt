@@ -1,14 +1,10 @@
 -- the paracomputer: every request acts on its cell at once. The paracomputer is the 1983 paper's;
 -- its instructions are this project's profile
 use Rattle.std.specs.Prelude.{ℕ, ◌*◌, List, [], ◌∷◌, Option, Some, None, slice_index, slice_index_or, slice_set}
-use Rattle.ultra_msg.specs.declared.Request.{Request}
-use Rattle.ultra_msg.specs.Act.{act}
+use Rattle.ultra_msg.specs.{declared.Request.Request, Act.act}
 use Rattle.ultra_pni.specs.Interface.{empty_interface, target_of}
-use Rattle.ultra_isa.specs.declared.Instr.{Instr}
-use Rattle.ultra_isa.specs.Instruction.{Site}
-use Rattle.ultra_isa.specs.Step.{Core, fresh_core, StepResult, step_of, received}
-use Rattle.ultra_model.specs.Places.{places}
-use Rattle.ultra_model.specs.Machine.{Settings, size, site, given_value}
+use Rattle.ultra_isa.specs.{declared.Instr.Instr, Instruction.Site, Step.{Core, fresh_core, StepResult, step_of, received}}
+use Rattle.ultra_model.specs.{Places.places, Machine.{Settings, size, site, given_value}}
 
 -- the cells by address, and the registers, program counter and state of each processing element
 pub record Para : Type 0 where

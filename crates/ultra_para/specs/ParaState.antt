@@ -1,9 +1,7 @@
 -- a paracomputer with its settings and its program
 use Rattle.std.specs.Prelude.{◌≡◌, ℕ, ◌*◌, ◌<◌, List, map, length, slice_index_or}
-use Rattle.ultra_isa.specs.declared.Instr.{Instr}
-use Rattle.ultra_isa.specs.Step.{ProcessorState, Core, fresh_core}
-use Rattle.ultra_model.specs.Places.{places}
-use Rattle.ultra_model.specs.Machine.{Settings, size, site}
+use Rattle.ultra_isa.specs.{declared.Instr.Instr, Step.{ProcessorState, Core, fresh_core}}
+use Rattle.ultra_model.specs.{Places.places, Machine.{Settings, size, site}}
 use Rattle.ultra_para.specs.Para.{Para}
 
 pub record ParaState : Type 0 where

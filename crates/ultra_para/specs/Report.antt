@@ -1,16 +1,11 @@
 -- what a step of a processing element did that the others can see, or how it stopped
 use Rattle.std.specs.Prelude.{ℕ, List, Bool, Option, Some, None, slice_index}
 use Rattle.std.specs.List.{list_all}
-use Rattle.ultra_msg.specs.declared.Request.{Request}
-use Rattle.ultra_msg.specs.Act.{act}
-use Rattle.ultra_isa.specs.declared.Instr.{Instr}
-use Rattle.ultra_isa.specs.declared.Step.{Step}
+use Rattle.ultra_msg.specs.{declared.Request.Request, Act.act}
+use Rattle.ultra_isa.specs.{declared.{Instr.Instr, Step.Step}, Step.{Core, StepResult, has_stopped}}
 use Rattle.ultra_isa.specs.declared.Step.TheVariants as step
-use Rattle.ultra_isa.specs.Step.{Core, StepResult, has_stopped}
 use Rattle.ultra_model.specs.Machine.{Settings}
-use Rattle.ultra_para.specs.declared.at_once.StepReport.{StepReport}
-use Rattle.ultra_para.specs.declared.at_once.StepReport.TheVariants.{Nothing, Acted, Faulted}
-use Rattle.ultra_para.specs.Para.{Para, core_at, alone}
+use Rattle.ultra_para.specs.{declared.at_once.StepReport.{StepReport, TheVariants.{Nothing, Acted, Faulted}}, Para.{Para, core_at, alone}}
 
 -- of a step that sent no request
 abbrev pub fault_in : Step → StepReport

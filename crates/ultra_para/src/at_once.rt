@@ -1,8 +1,7 @@
 //! One step of a processing element whose requests act at once.
 
 ghost use Rattle.std.specs.Prelude.{◌≡◌, ◌≤◌, length};
-ghost use Rattle.ultra_para.specs.Para.{alone_at, cells_acted, core_answered};
-ghost use Rattle.ultra_para.specs.Report.{fault_in, report_with};
+ghost use Rattle.ultra_para.specs.{Para.{alone_at, cells_acted, core_answered}, Report.{fault_in, report_with}};
 
 use ultra_isa::{MachineFault, Processor, Program, Step};
 use ultra_msg::{Reply, ReplyMessage, Request, Word};

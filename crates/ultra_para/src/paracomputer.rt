@@ -4,9 +4,7 @@ ghost use Rattle.std.specs.Prelude.{◌≡◌, ◌<◌, ◌≤◌, ◌*◌, ◌�
 ghost use Rattle.std.specs.List.{list_all};
 ghost use Rattle.ultra_isa.specs.Step.{has_stopped};
 ghost use Rattle.ultra_model.specs.Machine.{size};
-ghost use Rattle.ultra_para.specs.Para.{core_at, start_para, para_step, run_para};
-ghost use Rattle.ultra_para.specs.Report.{step_report, have_all_stopped as all_stopped};
-ghost use Rattle.ultra_para.specs.ParaState.{fresh_processors as all_fresh, cores_of};
+ghost use Rattle.ultra_para.specs.{Para.{core_at, start_para, para_step, run_para}, Report.{step_report, have_all_stopped as all_stopped}, ParaState.{fresh_processors as all_fresh, cores_of}};
 
 use crate::at_once::{StepReport, step_at_once};
 use std::alloc::{AllocError, Global};

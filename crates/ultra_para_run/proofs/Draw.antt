@@ -1,8 +1,6 @@
 -- the highest bits of a number of 64 bits
 use Rattle.std.proofs.Common.{◌≡◌, ℕ, ◌+◌, ◌-◌, ◌*◌, ◌/◌, ◌^◌, ◌<◌, ◌≤◌, sym, ◌∙◌, ap, subst, arith}
-use Rattle.std.proofs.Math.Nat.{div-lt_iff_lt-mul}
-use Rattle.std.proofs.Math.Pow.{pow_mono}
-use Rattle.std.proofs.lemmas.Nat.{pow_pos, pow-add}
+use Rattle.std.proofs.{Math.{Nat.div-lt_iff_lt-mul, Pow.pow_mono}, lemmas.Nat.{pow_pos, pow-add}}
 
 module _ (x s : ℕ) (fits : x < 2 ^ 64) (few : s ≤ 6) where
   parts : 2 ^ 64 ≡ 2 ^ s * 2 ^ (64 - s)

@@ -3,10 +3,8 @@ use Rattle.std.proofs.Common.{◌≡◌, ℕ, zero, suc, ◌+◌, ◌-◌, ◌/�
 use Rattle.std.proofs.lemmas.List.{length_push}
 use Rattle.ultra_isa.specs.declared.Instr.{Instr}
 use Rattle.ultra_model.specs.Machine.{Settings}
-use Rattle.ultra_para.specs.Para.{Para, para_step}
-use Rattle.ultra_para.specs.Report.{have_all_stopped}
-use Rattle.ultra_para_run.specs.ParaText.{after_steps}
-use Rattle.ultra_para_run.specs.SeededSchedule.{next_number, drawn_pe, unless_stopped, drawn_from, seeded_schedule}
+use Rattle.ultra_para.specs.{Para.{Para, para_step}, Report.have_all_stopped}
+use Rattle.ultra_para_run.specs.{ParaText.after_steps, SeededSchedule.{next_number, drawn_pe, unless_stopped, drawn_from, seeded_schedule}}
 use Rattle.ultra_para_run.proofs.Made.{state_more}
 
 module _ (c : Settings) (program : List Instr) where

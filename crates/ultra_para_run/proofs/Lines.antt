@@ -1,17 +1,7 @@
 -- the lines of a schedule's text and the words of a line, as loops take them
 use Rattle.std.proofs.Common.{◌≡◌, ℕ, ◌+◌, ◌-◌, ◌<◌, ◌≤◌, List, [], ◌∷◌, ◌++◌, map, length, take, get_or, Bool, true, false, Option, Some, None, is_some, refl, sym, ◌∙◌, ap, subst, arith, append_assoc, append-nil}
-use Rattle.std.specs.Prelude.{All, ◌&&◌, nat_lt, if◌then◌else◌}
-use Rattle.std.specs.List.{before_first, flat_map, list_all}
-use Rattle.std.specs.Str.Parse.{digits_value}
-use Rattle.std.specs.Iterator.{Yields}
-use Rattle.std.proofs.lemmas.Bool.{and_parts, ltb-true}
-use Rattle.std.proofs.lemmas.List.{take_more, take_all, map-append, get_or_default, length_push}
-use Rattle.std.proofs.lemmas.List.Folds.{list_all_more, list_all_at}
-use Rattle.std.proofs.lemmas.List.Elements.{All-nil, All-cons, All-append}
-use Rattle.std.proofs.lemmas.List.FromFn.{length-enumerate_from, get_or-enumerate_from}
-use Rattle.std.proofs.lemmas.List.Concat.{flat_map-append}
-use Rattle.std.proofs.lemmas.Iterator.{YieldsList}
-use Rattle.std.proofs.lemmas.Iterator.Consumers.{YieldsList-turn, YieldsList-end}
+use Rattle.std.specs.{Prelude.{All, ◌&&◌, nat_lt, if◌then◌else◌}, List.{before_first, flat_map, list_all}, Str.Parse.digits_value, Iterator.Yields}
+use Rattle.std.proofs.lemmas.{Bool.{and_parts, ltb-true}, List.{take_more, take_all, map-append, get_or_default, length_push, Folds.{list_all_more, list_all_at}, Elements.{All-nil, All-cons, All-append}, FromFn.{length-enumerate_from, get_or-enumerate_from}, Concat.flat_map-append}, Iterator.{YieldsList, Consumers.{YieldsList-turn, YieldsList-end}}}
 use Rattle.ultra_asm.specs.Words.{decimal_value, is_number, lines_of, words_of}
 use Rattle.ultra_asm.proofs.Turns.{Lent, numbered_text, numbered_lines}
 use Rattle.ultra_para_run.specs.ScheduleText.{begins_schedule_comment, if_below, pe_of, schedule_words, line_pes, are_pes, IsFirstBadPe, IsScheduleText}

@@ -1,22 +1,15 @@
 -- steps that were made, and one more
 use Rattle.std.proofs.Common.{◌≡◌, ℕ, ◌+◌, ◌-◌, ◌^◌, ◌<◌, ◌≤◌, List, [], ◌∷◌, ◌++◌, length, take, drop, get_or, Bool, true, false, refl, sym, ◌∙◌, ap, subst, arith, append_assoc, append-nil, inl, inr}
 use Rattle.std.specs.Prelude.{◌==◌, if◌then◌else◌, slice_index, slice_set}
-use Rattle.std.proofs.lemmas.List.{get_or-set_same, get_or-set_other, take_more, take-append-drop}
-use Rattle.std.proofs.lemmas.Bool.{cases_eq, eq-eqb, ne_eqb}
-use Rattle.ultra_io.specs.declared.text_buffer.TextBuffer.{TextBuffer}
-use Rattle.ultra_io.specs.TextBuffer.{Writes}
+use Rattle.std.proofs.lemmas.{List.{get_or-set_same, get_or-set_other, take_more, take-append-drop}, Bool.{cases_eq, eq-eqb, ne_eqb}}
+use Rattle.ultra_io.specs.{declared.text_buffer.TextBuffer.TextBuffer, TextBuffer.Writes}
 use Rattle.ultra_io.proofs.Writing.{◌then◌, writes_failed, writes_spent}
 use Rattle.ultra_isa.specs.declared.Instr.{Instr}
 use Rattle.ultra_model.specs.Machine.{Settings, size}
-use Rattle.ultra_para.specs.declared.at_once.StepReport.{StepReport}
-use Rattle.ultra_para.specs.declared.at_once.StepReport.TheVariants.{Nothing, Acted, Faulted}
-use Rattle.ultra_para.specs.Para.{Para, start_para, para_step, run_para}
-use Rattle.ultra_para.specs.ParaState.{ParaState}
-use Rattle.ultra_para.specs.Report.{step_report}
+use Rattle.ultra_para.specs.{declared.at_once.StepReport.{StepReport, TheVariants.{Nothing, Acted, Faulted}}, Para.{Para, start_para, para_step, run_para}, ParaState.ParaState, Report.step_report}
 use Rattle.ultra_para.proofs.Schedules.{run-append}
-use Rattle.ultra_para_run.specs.declared.steps.ParaRun.{ParaRun}
+use Rattle.ultra_para_run.specs.{declared.steps.ParaRun.ParaRun, Steps.HasMade}
 use Rattle.ultra_para_run.specs.ParaText.{act_count, step_line, after_steps, count_of_acts, next_line, lines_after, steps_text, unless_only_end, para_end, para_text}
-use Rattle.ultra_para_run.specs.Steps.{HasMade}
 
 act_at_most_once : (o : StepReport) → act_count o ≤ 1
 act_at_most_once Nothing = omega arith

@@ -1,15 +1,11 @@
 -- worked texts of the paracomputer, and worked schedules
 use Rattle.std.specs.Prelude.{◌≡◌, ℕ, List, [], ◌∷◌, ◌++◌, true, false, refl, codes}
 use Rattle.std.specs.Fmt.{digits}
-use Rattle.ultra_isa.specs.declared.Instr.{Instr}
-use Rattle.ultra_isa.specs.declared.Instr.TheVariants.{Set, Load}
-use Rattle.ultra_model.specs.Places.{places}
-use Rattle.ultra_model.specs.Trace.{registers_text}
+use Rattle.ultra_isa.specs.declared.Instr.{Instr, TheVariants.{Set, Load}}
+use Rattle.ultra_model.specs.{Places.places, Trace.registers_text}
 use Rattle.ultra_model.proofs.Pairs.{one_stage, add_one}
 use Rattle.ultra_para.specs.Report.{step_report}
-use Rattle.ultra_para_run.specs.ScheduleText.{are_pes, IsScheduleText}
-use Rattle.ultra_para_run.specs.ParaText.{count_of_acts, next_line, para_end, para_text}
-use Rattle.ultra_para_run.specs.SeededSchedule.{next_number, drawn_pe, drawn_from, seeded_schedule}
+use Rattle.ultra_para_run.specs.{ScheduleText.{are_pes, IsScheduleText}, ParaText.{count_of_acts, next_line, para_end, para_text}, SeededSchedule.{next_number, drawn_pe, drawn_from, seeded_schedule}}
 
 abbrev line : List ℕ → List ℕ
 line text = text ++ 10 ∷ []

@@ -1,14 +1,9 @@
 -- what is written of a paracomputer's run; this project's profile
 use Rattle.std.specs.Prelude.{ℕ, ◌+◌, ◌*◌, ◌==◌, List, [], ◌∷◌, ◌++◌, length, Bool, true, false, codes, decimal, slice_index, if◌then◌else◌}
 use Rattle.ultra_isa.specs.declared.Instr.{Instr}
-use Rattle.ultra_model.specs.Machine.{Settings, size}
-use Rattle.ultra_model.specs.Text.{newline}
-use Rattle.ultra_model.specs.Trace.{by_number, cell_line, fault_line, pe_line}
+use Rattle.ultra_model.specs.{Machine.{Settings, size}, Text.newline, Trace.{by_number, cell_line, fault_line, pe_line}}
 use Rattle.ultra_list.specs.SerialText.{order_line}
-use Rattle.ultra_para.specs.declared.at_once.StepReport.{StepReport}
-use Rattle.ultra_para.specs.declared.at_once.StepReport.TheVariants.{Nothing, Acted, Faulted}
-use Rattle.ultra_para.specs.Para.{Para, core_at, start_para, para_step, run_para}
-use Rattle.ultra_para.specs.Report.{step_report, have_all_stopped}
+use Rattle.ultra_para.specs.{declared.at_once.StepReport.{StepReport, TheVariants.{Nothing, Acted, Faulted}}, Para.{Para, core_at, start_para, para_step, run_para}, Report.{step_report, have_all_stopped}}
 
 -- ---- steps
 -- how many acts on memory a step is

@@ -1,7 +1,6 @@
 -- the text of a schedule, for a machine of `size` processing elements; this project's profile
 use Rattle.std.specs.Prelude.{◌≡◌, ℕ, ◌-◌, ◌≤◌, ◌==◌, Bool, true, false, List, [], length, map, take, Option, Some, None, is_some, nat_lt, slice_index_or, if◌then◌else◌}
-use Rattle.std.specs.List.{before_first, flat_map, list_all}
-use Rattle.std.specs.Str.Parse.{digits_value}
+use Rattle.std.specs.{List.{before_first, flat_map, list_all}, Str.Parse.digits_value}
 use Rattle.ultra_asm.specs.Words.{decimal_value, lines_of, words_of}
 
 -- `#`

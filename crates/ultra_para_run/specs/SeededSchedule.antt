@@ -2,8 +2,7 @@
 use Rattle.std.specs.Prelude.{ℕ, zero, suc, ◌+◌, ◌-◌, ◌*◌, ◌/◌, ◌%◌, ◌^◌, List, [], ◌∷◌, Bool, true, false, Option, Some, None}
 use Rattle.ultra_isa.specs.declared.Instr.{Instr}
 use Rattle.ultra_model.specs.Machine.{Settings, size}
-use Rattle.ultra_para.specs.Para.{Para, start_para, para_step}
-use Rattle.ultra_para.specs.Report.{have_all_stopped}
+use Rattle.ultra_para.specs.{Para.{Para, start_para, para_step}, Report.have_all_stopped}
 
 -- the next number of 64 bits
 unfoldable pub next_number : ℕ → ℕ

@@ -3,8 +3,7 @@ use Rattle.std.specs.Prelude.{◌≡◌, ℕ, ◌<◌, List, slice_index}
 use Rattle.ultra_isa.specs.declared.Instr.{Instr}
 use Rattle.ultra_model.specs.Machine.{Settings, size}
 use Rattle.ultra_para.specs.Para.{start_para}
-use Rattle.ultra_para_run.specs.declared.steps.ParaRun.{ParaRun}
-use Rattle.ultra_para_run.specs.ParaText.{after_steps, count_of_acts}
+use Rattle.ultra_para_run.specs.{declared.steps.ParaRun.ParaRun, ParaText.{after_steps, count_of_acts}}
 
 -- it has made these steps, and knows how often each processing element has acted
 pub record HasMade (c : Settings) (program : List Instr) (ps : List ℕ) (r : ParaRun) : Type 0 where

@@ -1,12 +1,11 @@
 //! The lines at the end of a run.
 
-ghost use Rattle.std.specs.Prelude.{◌≡◌, ◌≤◌, length, slice_index};
+ghost use Rattle.std.specs.Prelude.{◌≡◌, ◌≤◌, length, slice_index, slice_index_or};
 ghost use Rattle.ultra_io.specs.TextBuffer.{Writes};
 ghost use Rattle.ultra_model.specs.Trace.{by_number, cell_line, pe_line};
 ghost use Rattle.ultra_isa.specs.Step.{fresh_core};
 ghost use Rattle.ultra_para.specs.ParaState.{cores_of};
 ghost use Rattle.ultra_para_run.specs.ParaText.{para_end, stopped_text};
-ghost use Rattle.std.specs.Prelude.{slice_index_or};
 
 use ultra_io::TextBuffer;
 use ultra_isa::Processor;

@@ -3,9 +3,7 @@
 ghost use Rattle.std.specs.Prelude.{◌≡◌, ◌<◌, ◌++◌, All, IfErr, IfOk, Ok, position, true};
 ghost use Rattle.std.specs.List.{before_first};
 ghost use Rattle.ultra_asm.specs.Words.{is_separator};
-ghost use Rattle.ultra_para_run.specs.ScheduleText.{are_pes, begins_schedule_comment, line_pes, IsScheduleText, pe_of};
-ghost use Rattle.ultra_para_run.specs.ScheduleFaults.{ExplainsScheduleFault};
-ghost use Rattle.ultra_para_run.specs.declared.reading.ScheduleFault.TheVariants.{NoMemory};
+ghost use Rattle.ultra_para_run.specs.{ScheduleText.{are_pes, begins_schedule_comment, line_pes, IsScheduleText, pe_of}, ScheduleFaults.ExplainsScheduleFault, declared.reading.ScheduleFault.TheVariants.NoMemory};
 
 use std::alloc::{AllocFailed, Global};
 use ultra_asm::number_written;

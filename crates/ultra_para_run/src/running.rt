@@ -4,11 +4,8 @@ ghost use Rattle.std.specs.Prelude.{◌≡◌, ◌≢◌, ◌+◌, ◌<◌, ◌�
 ghost use Rattle.ultra_msg.specs.Bytes.{TakesPrefix};
 ghost use Rattle.ultra_io.specs.TextBuffer.{Writes, has_failed};
 ghost use Rattle.ultra_model.specs.Machine.{Settings, size};
-ghost use Rattle.ultra_trace_alone.specs.declared.fault.RunFault.TheVariants.{NoMemory, NoThread};
-ghost use Rattle.ultra_trace_alone.specs.Faults.{sink_faults};
-ghost use Rattle.ultra_para_run.specs.ParaText.{para_text, steps_text, unless_only_end};
-ghost use Rattle.ultra_para_run.specs.SeededSchedule.{most_steps, seeded_schedule};
-ghost use Rattle.ultra_para_run.specs.Steps.{HasMade};
+ghost use Rattle.ultra_trace_alone.specs.{declared.fault.RunFault.TheVariants.{NoMemory, NoThread}, Faults.sink_faults};
+ghost use Rattle.ultra_para_run.specs.{ParaText.{para_text, steps_text, unless_only_end}, SeededSchedule.{most_steps, seeded_schedule}, Steps.HasMade};
 
 use crate::drawing::{highest_bits, next_number};
 use crate::ending::put_end;

@@ -4,11 +4,8 @@ ghost use Rattle.std.specs.Prelude.{◌≡◌, ℕ, ◌+◌, ◌-◌, ◌<◌, �
 ghost use Rattle.ultra_io.specs.TextBuffer.{Writes};
 ghost use Rattle.ultra_list.specs.SerialText.{order_line};
 ghost use Rattle.ultra_isa.specs.declared.Instr.{Instr};
-ghost use Rattle.ultra_model.specs.Machine.{Settings, size};
-ghost use Rattle.ultra_model.specs.Text.{fault_text};
-ghost use Rattle.ultra_model.specs.Trace.{fault_line};
-ghost use Rattle.ultra_para_run.specs.ParaText.{act_count, next_line, step_line, unless_only_end};
-ghost use Rattle.ultra_para_run.specs.Steps.{HasMade};
+ghost use Rattle.ultra_model.specs.{Machine.{Settings, size}, Text.fault_text, Trace.fault_line};
+ghost use Rattle.ultra_para_run.specs.{ParaText.{act_count, next_line, step_line, unless_only_end}, Steps.HasMade};
 
 use std::alloc::{AllocError, Global};
 use ultra_io::TextBuffer;

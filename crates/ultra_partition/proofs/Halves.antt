@@ -5,7 +5,10 @@
 -- each block may make a half where the whole machine may, and it has memory for the events.
 use Rattle.std.proofs.Common.{nat_lt, true, false, ◌≡◌, ◌≢◌, ℕ, ◌+◌, ◌<◌, ◌≤◌, List, ◌++◌, map, Option, Some, None, length, arith, ◌-◌, ◌*◌, ◌/◌, ◌^◌, inl, inr, ◌∙◌, [], refl, sym, ap, ◌∷◌, get_or-set_other}
 use Rattle.ultra_partition.proofs.Common.{CanTakeReplies, CanTakeRequests, sizes, unit_of_element, unit_of_module, unit_of_switch, AreNamed, HalfLaw, HaveStopped, AreMerged, events_in, event_rank, stop_rank, length-map, get_or_past, append-nil, cases_lt, switch_count, link_number, unit_count, ports, where_room, IsShaped, stage_of, index_of, IsUnit, AreEmpty, is_switch, unit_is, has_places, places_of, places_twice, put_or, on_links, Event, Instr, Stop, pending_head, block_at, frame_of, value_or, home, first, BlockState, AreBlocks, AreBlocksAfter, cycles_made, listed_before, first_rank, rank_after, Half, all_after_half, AllCanMake, CanMakeLaw, AreAlike, all_after_own_half, AreReady, CanMakeTogether, HaveLeft, OfEach, HasHalfRoom, frame_after, Frame, SendReplies, TakeReplies, Serve, SendRequests, TakeRequests, Execute, AreSingle, MessageOf, inlets, message_on, on_each, link_table, with_link_table, AreThere, MessageKind, Replies, Requests, Switch, Ports, serve, served, present, without_reply, delivery, serving, issue_event, stop_of, after_replies, after_requests, replies_leaving, request_heads, requests_leaving, without_replies, without_requests, combinations_of, module_with, delivered_to, element_without, executed, element_of, step_at, Rooms as BlockRooms, replies_to_switch, reply_reader, reply_to_element, request_reader, request_to_module, requests_to_switch, two_combine, entries_before, same_visits, made_by_own, UnitUpdate, UnitUpdates, AllUpdated, AreFair, Seen, update, after_update, all_updated, end_puts, event_entries, on_one, on_two, stop_entries, switch_puts, on_links_after, same_entry, Unit as UnitName, has_way_from_element, request_ways, sends_requests, without_events, has_way_from_module, reply_ways, sends_replies, counted, executes, after_half, after_own_half, UnitCanTakeReplies, takes_replies, UnitCanTakeRequests, takes_requests, serves, all_open, at_both}
-use Rattle.ultra_partition.proofs.{Columns.changed_at, Columns.column_first, Columns.column_none, Columns.column_empty, Columns.same_entries, Units.few_units, Units.Sort, Units.at_home, Units.away, Units.elements, Units.home_small, Units.modules, Units.switches, Units.here, Moved.by_inlets, Moved.end_link, Moved.end_number, Moved.leads_to, Moved.links, Moved.links_of, Moved.none_among, Moved.none_past, Moved.reader, Moved.end_there, Moved.switch_there, Happenings.combinations_ranked, Happenings.joined_present, Happenings.listed_behind, Happenings.nothing_listed, Happenings.part, Happenings.same_listed, Happenings.units_list_nothing}
+use Rattle.ultra_partition.proofs.Columns.{changed_at, column_first, column_none, column_empty, same_entries}
+use Rattle.ultra_partition.proofs.Units.{few_units, Sort, at_home, away, elements, home_small, modules, switches, here}
+use Rattle.ultra_partition.proofs.Moved.{by_inlets, end_link, end_number, leads_to, links, links_of, none_among, none_past, reader, end_there, switch_there}
+use Rattle.ultra_partition.proofs.Happenings.{combinations_ranked, joined_present, listed_behind, nothing_listed, part, same_listed, units_list_nothing}
 use Rattle.ultra_cycle_law.specs.Course as course
 use Rattle.ultra_topology.specs.declared.unit.Unit.TheVariants as unit
 

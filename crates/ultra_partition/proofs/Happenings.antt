@@ -2,7 +2,7 @@
 -- of a sort list in all blocks is what they list in the whole machine, and each block lists it in the order of the ranks.
 use Rattle.std.proofs.Common.{◌≡◌, ◌≢◌, ℕ, zero, suc, ◌+◌, ◌<◌, List, [], ◌∷◌, ◌++◌, map, Option, length, length-append, refl, sym, ◌∙◌, ap, inl, inr, arith, ◌≤◌, ◌-◌, ◌/◌, min, append-nil}
 use Rattle.ultra_partition.proofs.Common.{cases_lt, get_or-append_right, get_or_append_left, All-from_recursion, filter-append, AllByRecursion, range_with_len, present, each-append, same_places, joined_next, joined_none, block_at, BlockState, value_or, home, AreMerged, InRanks, AreBlocks, MergedLaw, Lane, arrive, combinations, switch_number, combinations_of, Request, Ports, Switch, event_rank, stop_rank, places, joined, merged, of_rank, merged_alone, of_rank_none, merged_events, merged_stops, list_of, entries_before}
-use Rattle.ultra_partition.proofs.{Columns.same_entries, Units.Sort, Units.at_home, Units.away, Units.home_small}
+use Rattle.ultra_partition.proofs.{Columns.same_entries, Units.{Sort, at_home, away, home_small}}
 
 -- what units list, in order, where only n of them behind others list anything
 listed_by_sort : {T E : Type 0} (listed : ℕ → T → List E) (t : T) (before n : ℕ) (g : ℕ → List E) → ((i : ℕ) → i < before → listed i t ≡ []) → ((i : ℕ) → before + n ≤ i → listed i t ≡ [])

@@ -1,9 +1,10 @@
 -- Entries by rank, in one list and in several, the search for the list whose first entry comes next, and what a merge gives, entry by entry.
 use Rattle.std.proofs.Common.{◌≡◌, ◌≢◌, ℕ, zero, suc, ◌<◌, List, [], ◌∷◌, map, length, get_or, set, refl, arith, ◌+◌, ◌++◌, All, cond, nat_le, nat_lt, ◌&&◌, None, drop, Option, Some, sym, ◌∙◌, ap, subst, Bor, length-set, leb-true, slice_get, MatchOption}
-use Rattle.std.proofs.lemmas.{Bool.Decides.nat_tests, Bool.cases_eq, List.Elements.All-set, List.Elements.All-tail, List.Elements.filter-append, List.append-nil, List.drop_all, List.get_or-map, List.length-map, List.map-set, List.nil_from_length, List.take_all, Option.slice_get_cases}
-use Rattle.std.specs.{List.range_with_len, List.refill}
+use Rattle.std.proofs.lemmas.{Bool.{Decides.nat_tests, cases_eq}, List.Elements.{All-set, All-tail, filter-append}, Option.slice_get_cases}
+use Rattle.std.proofs.lemmas.List.{append-nil, drop_all, get_or-map, length-map, map-set, nil_from_length, take_all}
+use Rattle.std.specs.List.{range_with_len, refill}
 use Rattle.ultra_model.specs.Places.{joined, places}
-use Rattle.ultra_partition.specs.{Merging.IsFront, Merging.IsNextPlace, Merging.IsRanked, Merging.merged, Merging.of_rank, declared.merging.Front.Front}
+use Rattle.ultra_partition.specs.{Merging.{IsFront, IsNextPlace, IsRanked, merged, of_rank}, declared.merging.Front.Front}
 
 module _ {T : Type 0} (rank : T → ℕ) where
   -- ---- entries of one rank

@@ -2,7 +2,7 @@
 -- for it. Messages that lead from one block to a unit in another go there, and nothing else changes.
 use Rattle.std.proofs.Common.{◌≡◌, ◌≢◌, ℕ, ◌+◌, ◌-◌, ◌*◌, ◌^◌, ◌<◌, ◌≤◌, true, false, List, Option, Some, None, length, refl, sym, ap, subst, arith, map, ◌∙◌, get_or-set_same, get_or-set_other, ◌⊎◌, get_or}
 use Rattle.ultra_partition.proofs.Common.{nat_tests, get_or_default, get_or_past, length-set, switch_count, unit_count, module_number, element_number, ports, stage_of, index_of, delivery_link, memory_link, reply_links, request_links, on_both, on_link, AllStayWithin, AreEmpty, reply_inlets, request_inlets, IsShaped, AreRead, are_read, is_among, leads_there, replies_read, reply_reader, request_reader, requests_read, unit_is, put_apart, put_or, put_there, AreAlike, Frame, Ports, IsCut, block_at, no_block, first, home, frame_of, BlockState, AreThere, MessageOf, inlets, message_on, on_each, link_table, with_link_table, AreSingle, HasNoneFor, OnlyMove, carried, MessageKind, Replies, Requests, AreBlocks, other, emptied, emptied_first, length-put_on}
-use Rattle.ultra_partition.proofs.{Columns.column_first, Columns.same_entries}
+use Rattle.ultra_partition.proofs.Columns.{column_first, same_entries}
 
 -- ---- a block with something else on its links
 pub table_with : (kind : MessageKind) (t : List (Option (MessageOf kind))) (b : BlockState) → link_table kind (with_link_table kind t b) ≡ t

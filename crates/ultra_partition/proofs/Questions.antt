@@ -3,7 +3,7 @@
 use Rattle.std.proofs.Common.{◌≡◌, ℕ, ◌+◌, ◌^◌, ◌<◌, List, Bool, length, arith, [], ◌∷◌, refl, ◌*◌, ◌/◌, ◌≤◌, true, false, get_or, None, take, ap, ◌∙◌, ◌&&◌, is_some, not, ◌==◌, take_all}
 use Rattle.ultra_partition.proofs.Common.{list_all, list_any, All-from_get_or, get_or_default, itself, sizes, Lane, Element, size, is_empty, is_quiet, places_at, length-places, has_unit, switch_count, module_number, has_reply_room, has_request_room, quiet_switch, quiet_module, element_of, quiet_element, if_here, own_switch, own_module, HasNoted, AreOwnRooms, Rooms, Held, holds_at, switch_holds, module_holds, element_holds, is_switch, unit_of_module, unit_of_element, by_kind, unit_of_none, index_of, stage_of, Frame, ReplyMessage, Settings, number_small, lane_is, replies_is, memory_module_is, element_is, block_at, frame_of, home, no_block, BlockState, AreRooms, AreBlocks, OfEach, AreRoomsOfAll, holds, IsSetOfAll, Event, Stop, list_any_more, list_any_at, list_any_none, AllPass-from_list_all, list_all-from_AllPass, has_stopped, places, none_there, or_elsewhere, quiet_block, whole, sized_lane, sized_replies}
 use Rattle.ultra_model.specs.Places.{table}
-use Rattle.ultra_partition.proofs.{Units.home_small, Units.if_home, Units.modules, Units.switches, Units.elements, Units.Sort, Units.at_home, Units.here, Units.unit}
+use Rattle.ultra_partition.proofs.Units.{home_small, if_home, modules, switches, elements, Sort, at_home, here, unit}
 
 -- ---- of one block after another
 -- one block alone may pass a test, and it does if q is true

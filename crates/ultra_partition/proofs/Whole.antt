@@ -3,7 +3,7 @@
 use Rattle.std.proofs.Common.{◌≡◌, ℕ, ◌+◌, ◌*◌, ◌<◌, ◌≤◌, List, [], ◌∷◌, refl, ◌++◌, ◌∙◌, length, arith, ◌^◌, ap, ◌-◌}
 use Rattle.ultra_partition.proofs.Common.{Rooms, all_open, AreAlike, Frame, IsClear, Event, Instr, Stop, IsFrameOf, Settings, Machine, IsCut, frame_of, BlockState, OnlyMove, AreThere, AreSingle, MessageKind, Replies, Requests, all_after_half, all_after_own_half, AllCanMake, AreBlocks, AreMerged, AreNamed, AreReady, AreRooms, append-nil, cycles_made, frame_after, listed_before, rank_after, first_rank, HaveMade, HaveStopped, events_in, OfEach, Half, SendReplies, TakeReplies, Serve, SendRequests, TakeRequests, Execute, event_rank, merged_events, merged_stops, AreMachine, AreRoomsOfAll, AreWhole, machine_in, cycle, memory_phase, processor_phase, reply_phase, request_phase, delivered_well}
 use Rattle.ultra_cycle_law.proofs.Phases as step
-use Rattle.ultra_partition.proofs.{Halves.all_by_own, Halves.can_make_law, Halves.half_law, Moved.alike, Moved.nothing_moved, Moved.still_blocks, Happenings.merged_law, Happenings.nothing_listed, Happenings.same_listed}
+use Rattle.ultra_partition.proofs.{Halves.{all_by_own, can_make_law, half_law}, Moved.{alike, nothing_moved, still_blocks}, Happenings.{merged_law, nothing_listed, same_listed}}
 
 -- the half in which messages of a kind leave
 abbrev sends : MessageKind → Half

@@ -3,7 +3,7 @@
 use Rattle.std.specs.Prelude.{◌≡◌, ◌≢◌, ℕ, ◌<◌, List, Option, None, length, map, slice_set}
 use Rattle.ultra_partition.specs.Prelude.{unit_count, on_link, without_both, AreEmpty, put_on_both, reply_inlets, request_inlets, taken_by_turns, Request, ReplyMessage, Ports}
 use Rattle.ultra_partition.specs.Cut.{block_at, home, first, BlockState}
-pub use Rattle.ultra_partition.specs.declared.kind.MessageKind.{MessageKind, TheVariants.Replies, TheVariants.Requests}
+pub use Rattle.ultra_partition.specs.declared.kind.MessageKind.{MessageKind, TheVariants.{Replies, Requests}}
 
 abbrev pub MessageOf : MessageKind → Type 0
 MessageOf Replies = ReplyMessage

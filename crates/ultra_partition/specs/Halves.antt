@@ -2,8 +2,11 @@
 -- in it
 use Rattle.std.specs.Prelude.{◌≡◌, ℕ, ◌+◌, ◌<◌, ◌≤◌, List, length, map, ◌-◌, ◌*◌, ◌^◌, [], None, ◌++◌, All}
 use Rattle.ultra_partition.specs.Prelude.{Rooms as BlockRooms, most_events, Frame, AreClosedToReplies, AreClosedToRequests, AreAlike, ReplyMessage, executes, sends_replies, sends_requests, serves, takes_replies, takes_requests, reply_to, delivery_events, servings, combinations, issues, stops, Event, Instr, Stop, IsRanked, of_rank, ForSome, joined, IsShaped, CanMake, after_half, after_own_half, CanExecute, CanTakeReplies, CanTakeRequests}
-use Rattle.ultra_partition.specs.{Events.event_rank_count, Cut.IsCut, Cut.block_at, Cut.frame_of, Cut.first, Cut.BlockState, Exchange.AreThere, Exchange.AreSingle, Exchange.on_each, Exchange.MessageKind, Exchange.Replies, Exchange.Requests, Events.IsInOrder, Events.event_rank, Events.merged_events, Events.stop_rank, Events.merged_stops}
-pub use Rattle.ultra_block_core.specs.declared.half.Half.{Half, TheVariants.SendReplies, TheVariants.TakeReplies, TheVariants.Serve, TheVariants.SendRequests, TheVariants.TakeRequests, TheVariants.Execute}
+use Rattle.ultra_partition.specs.Events.{event_rank_count, IsInOrder, event_rank, merged_events, stop_rank, merged_stops}
+use Rattle.ultra_partition.specs.Cut.{IsCut, block_at, frame_of, first, BlockState}
+use Rattle.ultra_partition.specs.Exchange.{AreThere, AreSingle, on_each, MessageKind, Replies, Requests}
+pub use Rattle.ultra_block_core.specs.declared.half.Half.{Half}
+pub use Rattle.ultra_block_core.specs.declared.half.Half.TheVariants.{SendReplies, TakeReplies, Serve, SendRequests, TakeRequests, Execute}
 use Rattle.ultra_topology.specs.declared.TheConstants.{MOST_UNITS}
 
 -- these are the rooms of a frame of a machine of d stages, as its blocks have noted them

@@ -3,7 +3,7 @@ use Rattle.std.specs.Prelude.{ℕ, ◌+◌, ◌*◌, List, Bool, false, not, ◌
 use Rattle.ultra_partition.specs.Prelude.{Element, lane_at, replies_at, module_at, has_none, of_unit, whole, Settings, Machine, Event, Stop, Held, IsSetOf, module_holds}
 use Rattle.ultra_model.specs.Machine.{element_at}
 use Rattle.ultra_block_core.specs.declared.held.Held.TheVariants.{Reply, Request, Record}
-use Rattle.ultra_partition.specs.{Cut.frame_of, Cut.BlockState, Halves.AreBlocks}
+use Rattle.ultra_partition.specs.{Cut.{frame_of, BlockState}, Halves.AreBlocks}
 
 -- switch k of stage s: in the queues or wait buffers of its two positions
 abbrev pub stage_holds : Machine → Held → ℕ → ℕ → Bool

@@ -1,7 +1,6 @@
 -- lists of entries, each in the order of the ranks, and the one list that they make together
 use Rattle.std.specs.Prelude.{◌≡◌, ℕ, ◌<◌, ◌≤◌, ◌==◌, List, [], ◌∷◌, All, filter, refl, slice_index_or, Option, Some, None}
-use Rattle.std.specs.List.Sorted.{IsNonDecreasingBy}
-use Rattle.std.specs.Coded.{Coded, code_by, coded×, coded_list}
+use Rattle.std.specs.{List.Sorted.IsNonDecreasingBy, Coded.{Coded, code_by, coded×, coded_list}}
 use Rattle.ultra_model.specs.Places.{places, joined}
 use Rattle.ultra_partition.specs.declared.merging.Front.{Front}
 

@@ -1,7 +1,7 @@
 -- a machine cut into blocks in the course of a cycle, and what is asked of it, however it is cut
 use Rattle.std.specs.Prelude.{◌≡◌, ℕ, List, Bool}
 use Rattle.ultra_partition.specs.Prelude.{is_quiet, Rooms, IsClear, IsFrameOf, whole, Settings, Machine, Event, Instr, Stop}
-use Rattle.ultra_partition.specs.{Cut.frame_of, Cut.BlockState, Halves.AreBlocks, Halves.AreRooms, Halves.OfEach, Events.IsInOrder, Events.merged_events, Events.merged_stops}
+use Rattle.ultra_partition.specs.{Cut.{frame_of, BlockState}, Halves.{AreBlocks, AreRooms, OfEach}, Events.{IsInOrder, merged_events, merged_stops}}
 
 -- each block runs the program and has made n cycles, and together they are the machine m, in which
 -- this has happened in the cycle so far

@@ -2,9 +2,8 @@
 //! and whether anything is left to do.
 
 ghost use Rattle.std.specs.Prelude.{◌≡◌};
-ghost use Rattle.ultra_partition.specs.Prelude.{list_all};
+ghost use Rattle.ultra_partition.specs.{Prelude.list_all, Holding.IsSetOfAll, Moments.{AreRoomsOfAll, IsQuietOfAll}};
 ghost use Rattle.ultra_block_core.specs.Quiet.{quiet_block};
-ghost use Rattle.ultra_partition.specs.{Holding.IsSetOfAll, Moments.AreRoomsOfAll, Moments.IsQuietOfAll};
 
 use ultra_block_core::{Block, Held, Rooms};
 use ultra_topology::UnitSet;

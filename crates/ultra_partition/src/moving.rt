@@ -1,8 +1,8 @@
 //! Messages go from the block in which they were sent to the block of the unit to which they lead.
 
 ghost use Rattle.std.specs.Prelude.{◌≡◌, ℕ, ◌<◌, IfNone, IfSome, length};
-ghost use Rattle.ultra_partition.specs.Prelude.{AllStayWithin, IsNextAway};
-ghost use Rattle.ultra_partition.specs.{Cut.IsCut, Cut.block_at, Cut.home, Exchange.AreSingle, Exchange.AreThere, Exchange.HasNoneFor, Exchange.OnlyMove, Exchange.inlets, Exchange.link_table};
+ghost use Rattle.ultra_partition.specs.{Prelude.{AllStayWithin, IsNextAway}, Cut.{IsCut, block_at, home}};
+ghost use Rattle.ultra_partition.specs.Exchange.{AreSingle, AreThere, HasNoneFor, OnlyMove, inlets, link_table};
 ghost use Rattle.ultra_topology.specs.declared.TheConstants.{MOST_UNITS};
 
 use crate::kind::MessageKind;

@@ -1,12 +1,8 @@
 -- the requests that wait are for the cells that were opened last
 use Rattle.std.proofs.Common.{◌≡◌, ℕ, zero, suc, ◌+◌, ◌-◌, ◌<◌, ◌≤◌, length, get_or, List, [], ◌∷◌, take, drop, Bool, true, false, refl, sym, ap, ◌∙◌, arith, rules, inl, inr}
-use Rattle.std.specs.Prelude.{IsSome, map, ◌==◌}
-use Rattle.std.specs.List.{remove, position, position_or_len}
+use Rattle.std.specs.{Prelude.{IsSome, map, ◌==◌}, List.{remove, position, position_or_len}}
 use Rattle.std.proofs.lemmas.List.{length-take-le, length-map, drop_at, drop-drop, drop-map, take-map, map-append, get_or-drop, get_or-map}
-use Rattle.std.proofs.lemmas.List.Edits.{length-remove}
-use Rattle.std.proofs.lemmas.List.Folds.{list_any_at, Any-from_list_any}
-use Rattle.std.proofs.lemmas.List.Sums.{fails_before_first}
-use Rattle.std.proofs.lemmas.Bool.{false≢true, cases_lt, lt-ltb}
+use Rattle.std.proofs.lemmas.{List.{Edits.length-remove, Folds.{list_any_at, Any-from_list_any}, Sums.fails_before_first}, Bool.{false≢true, cases_lt, lt-ltb}}
 use Rattle.ultra_msg.specs.declared.Request.{Request}
 use Rattle.ultra_pni.specs.declared.OpenCell.{OpenCell}
 use Rattle.ultra_pni.specs.Interface.{Interface, open_cells, pending_cells, is_open, is_pending, target_of}

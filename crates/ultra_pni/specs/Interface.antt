@@ -3,10 +3,7 @@
 use Rattle.std.specs.Prelude.{◌≡◌, ◌≢◌, ℕ, ◌-◌, ◌≤◌, List, [], ◌∷◌, ◌++◌, Bool, true, false, ◌==◌, nat_lt, length, map, drop, slice_get, Option, Some, None, if◌then◌else◌}
 use Rattle.std.specs.List.{list_any, AllPairs}
 use Rattle.ultra_msg.specs.declared.Request.{Request}
-use Rattle.ultra_pni.specs.declared.OpenCell.{OpenCell}
-use Rattle.ultra_pni.specs.declared.Issue.{Issue}
-use Rattle.ultra_pni.specs.declared.Issue.TheVariants.{Sent, CellOpen, Full}
-use Rattle.ultra_pni.specs.declared.TheConstants.{MOST_OPEN}
+use Rattle.ultra_pni.specs.declared.{OpenCell.OpenCell, Issue.{Issue, TheVariants.{Sent, CellOpen, Full}}, TheConstants.MOST_OPEN}
 
 -- the open cells in the order of their issues, and the requests that are not yet in the network,
 -- the first to leave first

@@ -1,7 +1,6 @@
 -- which registers are awaited, as bits of one word: bit r says it of register r. This project's
 -- profile
-use Rattle.std.specs.Prelude.{◌≡◌, ℕ, Bool, ◌==◌}
-use Rattle.std.specs.Int.{bit_at}
+use Rattle.std.specs.{Prelude.{◌≡◌, ℕ, Bool, ◌==◌}, Int.bit_at}
 use Rattle.ultra_pni.specs.Interface.{Interface, IsWithin, is_awaited}
 
 abbrev pub has_register : ℕ → ℕ → Bool

@@ -1,7 +1,6 @@
 -- requests in a ring over 8 places. This project's profile
 use Rattle.std.specs.Prelude.{ℕ, zero, suc, ◌+◌, ◌%◌, ◌<◌, ◌≤◌, List, [], ◌∷◌, slice_index_or}
-use Rattle.ultra_msg.specs.declared.Request.{Request}
-use Rattle.ultra_msg.specs.declared.Op.TheVariants.{Load}
+use Rattle.ultra_msg.specs.declared.{Request.Request, Op.TheVariants.Load}
 
 abbrev pub no_request : Request
 no_request = record { pe = 0; cell = 0; op = Load }

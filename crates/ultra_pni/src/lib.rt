@@ -55,8 +55,7 @@ pub struct Pni {
 }
 
 impl Model for Pni {
-    ghost use Rattle.ultra_pni.specs.Interface.{SizedInterface};
-    ghost use Rattle.ultra_pni.specs.Registers.{IsConsistentPni};
+    ghost use Rattle.ultra_pni.specs.{Interface.SizedInterface, Registers.IsConsistentPni};
 
     ghost Value = { SizedInterface };
 

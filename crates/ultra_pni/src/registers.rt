@@ -1,8 +1,7 @@
 //! Sets of registers.
 
 ghost use Rattle.std.specs.Prelude.{◌≡◌, ℕ, ◌<◌, ◌↔◌, ◌==◌, ◌||◌, true, false};
-ghost use Rattle.ultra_pni.specs.Interface.{goes_to, is_awaited};
-ghost use Rattle.ultra_pni.specs.Registers.{has_register};
+ghost use Rattle.ultra_pni.specs.{Interface.{goes_to, is_awaited}, Registers.has_register};
 
 use crate::OpenCell;
 use std::marker::Model;

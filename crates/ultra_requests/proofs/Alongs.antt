@@ -2,11 +2,9 @@
 use Rattle.std.proofs.Common.{ℕ, ◌≡◌, ◌+◌, ◌<◌, ◌≤◌, List, [], ◌∷◌, ◌++◌, length, drop, drop-cons, add-one, get_or, refl, sym, ap, ◌∙◌, subst, append_assoc, append-nil, arith}
 use Rattle.std.proofs.lemmas.List.{drop_all}
 use Rattle.ultra_msg.specs.declared.Event.{Event}
-use Rattle.ultra_io.specs.declared.text_buffer.TextBuffer.{TextBuffer}
-use Rattle.ultra_io.specs.TextBuffer.{Writes}
+use Rattle.ultra_io.specs.{declared.text_buffer.TextBuffer.TextBuffer, TextBuffer.Writes}
 use Rattle.ultra_io.proofs.Writing.{◌then◌, writes_nothing}
-use Rattle.ultra_latency.specs.declared.open.OpenRequest.{OpenRequest}
-use Rattle.ultra_latency.specs.Open.{rows_with, rows_after, HasPlace, HavePlaces}
+use Rattle.ultra_latency.specs.{declared.open.OpenRequest.OpenRequest, Open.{rows_with, rows_after, HasPlace, HavePlaces}}
 use Rattle.ultra_latency.proofs.Rows.{next_rows, next_places}
 use Rattle.ultra_requests.specs.Along.{along, HasRows, HaveRows}
 

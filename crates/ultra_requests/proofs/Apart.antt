@@ -2,19 +2,14 @@
 use Rattle.std.proofs.Common.{ℕ, zero, suc, ◌≡◌, ◌≢◌, ◌+◌, ◌<◌, ◌≤◌, List, [], ◌∷◌, Bool, true, false, not, ◌&&◌, cond, map, refl, ap, ◌∙◌, arith}
 use Rattle.std.specs.Prelude.{Option, Some, None, IfSome, option_to_list, ◌==◌}
 use Rattle.std.specs.List.{AllByRecursion, filter, find, flat_map, range_with_len}
-use Rattle.std.proofs.lemmas.Bool.{eqb-true}
-use Rattle.std.proofs.lemmas.Bool.Decides.{nat_tests}
+use Rattle.std.proofs.lemmas.Bool.{eqb-true, Decides.nat_tests}
 use Rattle.ultra_model.specs.Balance.{weight, count}
 use Rattle.ultra_model.proofs.Counting.{both_true, count-append}
-use Rattle.ultra_serial_law.specs.declared.records.LoggedIssue.{LoggedIssue}
-use Rattle.ultra_serial_law.specs.declared.records.LoggedAnswer.{LoggedAnswer}
-use Rattle.ultra_serial_law.specs.Log.{Log}
+use Rattle.ultra_serial_law.specs.{declared.records.{LoggedIssue.LoggedIssue, LoggedAnswer.LoggedAnswer}, Log.Log}
 use Rattle.ultra_latency.proofs.OwnIssues.{own}
 use Rattle.ultra_latency.specs.declared.open.OpenRequest.{OpenRequest}
 use Rattle.ultra_requests.specs.RequestTable.{Row, answered_row, answered_rows, is_answer_to, is_answered, request_rows, waiting, waiting_rows}
-use Rattle.ultra_requests.proofs.Numbered.{IsInStep, cond_tested, issues_at, left_by, one_of_both}
-use Rattle.ultra_requests.proofs.Steps.{own_answers}
-use Rattle.ultra_requests.proofs.Tables.{all_left, left_same, own_all}
+use Rattle.ultra_requests.proofs.{Numbered.{IsInStep, cond_tested, issues_at, left_by, one_of_both}, Steps.own_answers, Tables.{all_left, left_same, own_all}}
 
 -- ---- counts of lists
 count-map : {X Y : Type 0} (t : Y → Bool) (f : X → Y) (xs : List X) → count t (map f xs) ≡ count (λ x. t (f x)) xs

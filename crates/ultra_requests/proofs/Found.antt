@@ -2,33 +2,18 @@
 use Rattle.std.proofs.Common.{ℕ, ◌≡◌, ◌+◌, ◌<◌, List, [], ◌∷◌, ◌++◌, inl, inr, Bool, true, false, ◌&&◌, cond, map, append-nil, refl, sym, ap, ◌∙◌, subst, arith}
 use Rattle.std.specs.Prelude.{Option, Some, None, IfSome, option_to_list, ◌==◌}
 use Rattle.std.specs.List.{AllByRecursion, filter, find, flat_map}
-use Rattle.std.proofs.lemmas.Bool.{eqb-true}
-use Rattle.std.proofs.lemmas.List.Concat.{flat_map-append}
-use Rattle.ultra_msg.specs.declared.ReplyMessage.{ReplyMessage}
-use Rattle.ultra_msg.specs.declared.Event.{Event}
-use Rattle.ultra_msg.specs.declared.Event.TheVariants.{Delivered, Served, Combined, Issued}
+use Rattle.std.proofs.lemmas.{Bool.eqb-true, List.Concat.flat_map-append}
+use Rattle.ultra_msg.specs.declared.{ReplyMessage.ReplyMessage, Event.{Event, TheVariants.{Delivered, Served, Combined, Issued}}}
 use Rattle.ultra_isa.specs.declared.Instr.{Instr}
-use Rattle.ultra_model.specs.Machine.{Settings, size}
-use Rattle.ultra_model.specs.Places.{places}
-use Rattle.ultra_model.specs.Phases.{after, delivery}
-use Rattle.ultra_model.specs.Ranges.{AreInRange}
+use Rattle.ultra_model.specs.{Machine.{Settings, size}, Places.places, Phases.{after, delivery}, Ranges.AreInRange}
 use Rattle.ultra_model.proofs.Each.{each-append, each-present, each-places, each-weaker}
-use Rattle.ultra_serial_law.specs.declared.records.LoggedIssue.{LoggedIssue}
-use Rattle.ultra_serial_law.specs.declared.records.LoggedAnswer.{LoggedAnswer}
-use Rattle.ultra_serial_law.specs.Log.{latest_number}
-use Rattle.ultra_serial_law.proofs.Answered.{IsNoDelivery}
-use Rattle.ultra_serial_law.proofs.Explained.{IsIn}
+use Rattle.ultra_serial_law.specs.{declared.records.{LoggedIssue.LoggedIssue, LoggedAnswer.LoggedAnswer}, Log.latest_number}
+use Rattle.ultra_serial_law.proofs.{Answered.IsNoDelivery, Explained.IsIn}
 use Rattle.ultra_latency.specs.declared.open.OpenRequest.{OpenRequest}
 use Rattle.ultra_latency.specs.Open.{row, rows_with, request_for, open_request, open_rows, IsOpenIn, IsOpenLaw, NameOpen}
-use Rattle.ultra_latency.proofs.CycleEvents.{brought, deliveries, others, issues, events_are}
-use Rattle.ultra_latency.proofs.Deliveries.{brought_own, knows}
-use Rattle.ultra_latency.proofs.OwnIssues.{own}
-use Rattle.ultra_requests.specs.RequestTable.{Row, answered_row, answered_rows, is_answer_to, row_line}
-use Rattle.ultra_requests.specs.CycleRows.{answer_in, answers_of_cycle, log_after, rows_of_cycle}
-use Rattle.ultra_requests.specs.Along.{along, answer_if, logged_issue, row_at}
-use Rattle.ultra_requests.proofs.NamedLines.{number_latest}
-use Rattle.ultra_requests.proofs.Numbered.{as_open, open_issue}
-use Rattle.ultra_requests.proofs.Steps.{in_step, none_delivered}
+use Rattle.ultra_latency.proofs.{CycleEvents.{brought, deliveries, others, issues, events_are}, Deliveries.{brought_own, knows}, OwnIssues.own}
+use Rattle.ultra_requests.specs.{RequestTable.{Row, answered_row, answered_rows, is_answer_to, row_line}, CycleRows.{answer_in, answers_of_cycle, log_after, rows_of_cycle}, Along.{along, answer_if, logged_issue, row_at}}
+use Rattle.ultra_requests.proofs.{NamedLines.number_latest, Numbered.{as_open, open_issue}, Steps.{in_step, none_delivered}}
 
 -- ---- an issue of a processing element
 own_step : (p : ℕ) (x : LoggedIssue) (is : List LoggedIssue) (i : LoggedIssue) (b : Bool) → (x.pe == p) ≡ b → (IsIn i (own p is) → i.pe ≡ p) → IsIn i (cond b (x ∷ own p is) (own p is)) → i.pe ≡ p

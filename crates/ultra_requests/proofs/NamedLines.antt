@@ -1,20 +1,14 @@
 -- the lines of a cycle, by the open requests
 use Rattle.std.proofs.Common.{ℕ, ◌≡◌, ◌+◌, List, [], ◌∷◌, ◌++◌, Bool, true, false, length, append-nil, refl, sym, ap, ◌∙◌, subst}
 use Rattle.std.specs.List.{flat_map}
-use Rattle.ultra_msg.specs.declared.Event.{Event}
-use Rattle.ultra_msg.specs.declared.Event.TheVariants.{Delivered, Served, Combined, Issued}
+use Rattle.ultra_msg.specs.declared.Event.{Event, TheVariants.{Delivered, Served, Combined, Issued}}
 use Rattle.ultra_isa.specs.declared.Instr.{Instr}
-use Rattle.ultra_model.specs.Machine.{Settings}
-use Rattle.ultra_model.specs.Phases.{after}
-use Rattle.ultra_serial_law.specs.declared.records.LoggedIssue.{LoggedIssue}
-use Rattle.ultra_serial_law.specs.Log.{is_issue_for, latest_number}
-use Rattle.ultra_serial_law.specs.SerialList.{history}
+use Rattle.ultra_model.specs.{Machine.Settings, Phases.after}
+use Rattle.ultra_serial_law.specs.{declared.records.LoggedIssue.LoggedIssue, Log.{is_issue_for, latest_number}, SerialList.history}
 use Rattle.ultra_trace_alone.specs.RunText.{run_text}
-use Rattle.ultra_latency.specs.declared.open.OpenRequest.{OpenRequest}
-use Rattle.ultra_latency.specs.Latency.{latest_among, latest_issue, no_issue}
+use Rattle.ultra_latency.specs.{declared.open.OpenRequest.OpenRequest, Latency.{latest_among, latest_issue, no_issue}}
 use Rattle.ultra_latency.specs.Open.{open_rows, rows_with, IsOpenIn, IsOpenLaw, NamesOpen, NameOpen}
-use Rattle.ultra_requests.specs.Along.{along, event_line_at, number_in_rows, number_if_open, HaveRows}
-use Rattle.ultra_requests.specs.EventLines.{event_line, events_of, open_number, shown_of_cycle}
+use Rattle.ultra_requests.specs.{Along.{along, event_line_at, number_in_rows, number_if_open, HaveRows}, EventLines.{event_line, events_of, open_number, shown_of_cycle}}
 
 -- the number of the latest issue
 number_if : (p a : ℕ) (is : List LoggedIssue) (j i : LoggedIssue) (b : Bool) → ((k : LoggedIssue) → latest_number p a is k.number ≡ (latest_among p a is k).number)

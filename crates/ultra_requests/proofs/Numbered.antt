@@ -1,20 +1,12 @@
 -- the issues and the answers of one processing element, whose numbers ascend
 use Rattle.std.proofs.Common.{ℕ, ◌≡◌, ◌≢◌, ◌+◌, ◌<◌, ◌≤◌, List, [], ◌∷◌, ◌++◌, inl, inr, Bool, true, false, not, ◌||◌, cond, map, refl, sym, ap, ◌∙◌, arith}
-use Rattle.std.specs.Prelude.{Some, ◌==◌}
-use Rattle.std.specs.List.{AllByRecursion, filter, find, list_any}
-use Rattle.std.proofs.lemmas.Bool.{eqb-true, cases_lt}
-use Rattle.std.proofs.lemmas.Bool.Decides.{nat_tests}
-use Rattle.std.proofs.lemmas.List.{map-append}
-use Rattle.std.proofs.lemmas.List.Elements.{filter-append}
-use Rattle.std.proofs.lemmas.List.Folds.{list_any-append}
+use Rattle.std.specs.{Prelude.{Some, ◌==◌}, List.{AllByRecursion, filter, find, list_any}}
+use Rattle.std.proofs.lemmas.{Bool.{eqb-true, cases_lt, Decides.nat_tests}, List.{map-append, Elements.filter-append, Folds.list_any-append}}
 use Rattle.ultra_model.specs.Balance.{weight, count}
-use Rattle.ultra_model.proofs.Counting.{count-append}
-use Rattle.ultra_model.proofs.Each.{each-append, each-weaker}
-use Rattle.ultra_serial_law.specs.declared.records.LoggedIssue.{LoggedIssue}
-use Rattle.ultra_serial_law.specs.declared.records.LoggedAnswer.{LoggedAnswer}
+use Rattle.ultra_model.proofs.{Counting.count-append, Each.{each-append, each-weaker}}
+use Rattle.ultra_serial_law.specs.declared.records.{LoggedIssue.LoggedIssue, LoggedAnswer.LoggedAnswer}
 use Rattle.ultra_serial_law.proofs.Explained.{IsIn}
-use Rattle.ultra_latency.specs.declared.open.OpenRequest.{OpenRequest}
-use Rattle.ultra_latency.specs.Open.{request_for, without_request}
+use Rattle.ultra_latency.specs.{declared.open.OpenRequest.OpenRequest, Open.{request_for, without_request}}
 
 abbrev pub as_open : LoggedIssue → OpenRequest
 as_open i = record { number = i.number; cell = i.cell; op = i.op; cycle = i.cycle }

@@ -2,32 +2,16 @@
 use Rattle.std.proofs.Common.{ℕ, zero, suc, ◌≡◌, ◌+◌, ◌<◌, ◌≤◌, List, [], ◌∷◌, inl, inr, Bool, true, false, not, ◌||◌, ◌&&◌, cond, map, refl, sym, ap, ◌∙◌, subst, arith}
 use Rattle.std.specs.Prelude.{Option, Some, None, IfSome, option_to_list, ◌==◌}
 use Rattle.std.specs.List.{AllByRecursion, filter, find, flat_map, list_any, range_with_len}
-use Rattle.std.proofs.lemmas.Bool.{eqb-true, cases_lt}
-use Rattle.std.proofs.lemmas.Bool.Decides.{nat_tests}
+use Rattle.std.proofs.lemmas.Bool.{eqb-true, cases_lt, Decides.nat_tests}
 use Rattle.ultra_isa.specs.declared.Instr.{Instr}
-use Rattle.ultra_model.specs.Machine.{Settings, size}
-use Rattle.ultra_model.specs.Phases.{after}
-use Rattle.ultra_model.specs.Ranges.{AreInRange}
-use Rattle.ultra_model.proofs.Counting.{both_true}
-use Rattle.ultra_model.proofs.Each.{each-append}
-use Rattle.ultra_serial_law.specs.declared.records.LoggedIssue.{LoggedIssue}
-use Rattle.ultra_serial_law.specs.declared.records.LoggedAnswer.{LoggedAnswer}
-use Rattle.ultra_serial_law.specs.Log.{Log}
-use Rattle.ultra_serial_law.proofs.Explained.{IsIn, in-append, in-append_right}
-use Rattle.ultra_serial_law.proofs.Issued.{IsEarlier}
-use Rattle.ultra_serial_law.proofs.Law.{serial_after}
-use Rattle.ultra_serial_law.proofs.Lists.{in_has, has_in, one_place}
-use Rattle.ultra_serial_law.proofs.RequestForest.{in_holds}
+use Rattle.ultra_model.specs.{Machine.{Settings, size}, Phases.after, Ranges.AreInRange}
+use Rattle.ultra_model.proofs.{Counting.both_true, Each.each-append}
+use Rattle.ultra_serial_law.specs.{declared.records.{LoggedIssue.LoggedIssue, LoggedAnswer.LoggedAnswer}, Log.Log}
+use Rattle.ultra_serial_law.proofs.{Explained.{IsIn, in-append, in-append_right}, Issued.IsEarlier, Law.serial_after, Lists.{in_has, has_in, one_place}, RequestForest.in_holds}
 use Rattle.ultra_latency.proofs.OwnIssues.{is_of_pe, own}
 use Rattle.ultra_requests.specs.RequestTable.{Row, answered_row, answered_rows, is_answer_to, is_answered, request_rows, waiting, waiting_rows}
-use Rattle.ultra_requests.specs.CycleRows.{log_after}
-use Rattle.ultra_requests.specs.RowLaw.{AreRowsOf, RequestLaw}
-use Rattle.ultra_requests.proofs.Apart.{is_named, one_named}
-use Rattle.ultra_requests.proofs.Numbered.{found_by_number, in_filtered}
-use Rattle.ultra_requests.proofs.Steps.{in_step}
-use Rattle.ultra_requests.proofs.Found.{find_own}
-use Rattle.ultra_requests.proofs.RowOrder.{rows_ordered}
-use Rattle.ultra_requests.proofs.Tables.{FindIn, all_find}
+use Rattle.ultra_requests.specs.{CycleRows.log_after, RowLaw.{AreRowsOf, RequestLaw}}
+use Rattle.ultra_requests.proofs.{Apart.{is_named, one_named}, Numbered.{found_by_number, in_filtered}, Steps.in_step, Found.find_own, RowOrder.rows_ordered, Tables.{FindIn, all_find}}
 
 -- ---- members of lists
 find_step : (t : LoggedIssue → Bool) (x : LoggedIssue) (is : List LoggedIssue) (i : LoggedIssue) (b : Bool) → t x ≡ b → (find t is ≡ Some i → IsIn i is × (t i ≡ true)) → cond b (Some x) (find t is) ≡ Some i → IsIn i (x ∷ is) × (t i ≡ true)

@@ -2,29 +2,16 @@
 use Rattle.std.proofs.Common.{ℕ, zero, suc, ◌≡◌, ◌+◌, ◌<◌, ◌≤◌, List, [], ◌∷◌, ◌++◌, inl, inr, map, not, refl, sym, ◌∙◌, subst, arith}
 use Rattle.std.specs.Prelude.{Option, Some, None, IfSome, AllPairs, option_to_list}
 use Rattle.std.specs.List.{AllByRecursion, find, flat_map, range_with_len}
-use Rattle.std.proofs.lemmas.List.Elements.{All-from_recursion}
-use Rattle.std.proofs.lemmas.List.Kept.{AllPairs-cons}
-use Rattle.ultra_msg.specs.declared.ReplyMessage.{ReplyMessage}
-use Rattle.ultra_msg.specs.declared.Event.{Event}
+use Rattle.std.proofs.lemmas.List.{Elements.All-from_recursion, Kept.AllPairs-cons}
+use Rattle.ultra_msg.specs.declared.{ReplyMessage.ReplyMessage, Event.Event}
 use Rattle.ultra_isa.specs.declared.Instr.{Instr}
-use Rattle.ultra_model.specs.Machine.{Settings, size}
-use Rattle.ultra_model.specs.Places.{places, present}
-use Rattle.ultra_model.specs.Phases.{delivery}
-use Rattle.ultra_model.specs.Ranges.{AreInRange}
+use Rattle.ultra_model.specs.{Machine.{Settings, size}, Places.{places, present}, Phases.delivery, Ranges.AreInRange}
 use Rattle.ultra_model.proofs.Each.{each-append, each-weaker}
-use Rattle.ultra_serial_law.specs.declared.records.LoggedIssue.{LoggedIssue}
-use Rattle.ultra_serial_law.specs.declared.records.LoggedAnswer.{LoggedAnswer}
-use Rattle.ultra_serial_law.specs.Log.{Log}
-use Rattle.ultra_serial_law.specs.SerialList.{history}
-use Rattle.ultra_latency.proofs.CycleEvents.{brought}
-use Rattle.ultra_latency.proofs.Deliveries.{brought_own}
-use Rattle.ultra_latency.proofs.OwnIssues.{own}
+use Rattle.ultra_serial_law.specs.{declared.records.{LoggedIssue.LoggedIssue, LoggedAnswer.LoggedAnswer}, Log.Log, SerialList.history}
+use Rattle.ultra_latency.proofs.{CycleEvents.brought, Deliveries.brought_own, OwnIssues.own}
 use Rattle.ultra_requests.specs.RequestTable.{Row, answered_row, answered_rows, is_answer_to, is_answered, request_rows, waiting, waiting_rows}
-use Rattle.ultra_requests.specs.CycleRows.{answer_in, answers_of_cycle, log_after}
-use Rattle.ultra_requests.specs.RowLaw.{IsLess, ComesBefore}
-use Rattle.ultra_requests.proofs.Numbered.{IsAscending, ascending_filter}
-use Rattle.ultra_requests.proofs.Steps.{answers_next, in_step, no_answer, shown_by}
-use Rattle.ultra_requests.proofs.Tables.{own_all, all_left}
+use Rattle.ultra_requests.specs.{CycleRows.{answer_in, answers_of_cycle, log_after}, RowLaw.{IsLess, ComesBefore}}
+use Rattle.ultra_requests.proofs.{Numbered.{IsAscending, ascending_filter}, Steps.{answers_next, in_step, no_answer, shown_by}, Tables.{own_all, all_left}}
 
 -- ---- lists in which each element comes before all later ones
 abbrev AreOrdered : {X : Type 0} → (X → X → Type 0) → List X → Type 0

@@ -1,39 +1,19 @@
 -- after every cycle the open requests of a processing element are its issues without an answer
 use Rattle.std.proofs.Common.{ℕ, zero, suc, ◌≡◌, ◌≢◌, true, false, ◌+◌, ◌<◌, ◌≤◌, List, [], ◌∷◌, ◌++◌, append-nil, append_assoc, refl, sym, ap, ◌∙◌, subst, arith}
-use Rattle.std.specs.Prelude.{Option, Some, None, IfSome, ◌==◌}
-use Rattle.std.specs.List.{AllByRecursion, filter, flat_map}
-use Rattle.std.proofs.lemmas.Bool.Decides.{nat_tests}
-use Rattle.std.proofs.lemmas.List.Concat.{flat_map-append}
-use Rattle.std.proofs.lemmas.List.Elements.{filter-append}
-use Rattle.ultra_msg.specs.declared.Request.{Request}
-use Rattle.ultra_msg.specs.declared.ReplyMessage.{ReplyMessage}
-use Rattle.ultra_msg.specs.declared.Event.{Event}
-use Rattle.ultra_msg.specs.declared.Event.TheVariants.{Delivered, Served, Combined, Issued}
+use Rattle.std.specs.{Prelude.{Option, Some, None, IfSome, ◌==◌}, List.{AllByRecursion, filter, flat_map}}
+use Rattle.std.proofs.lemmas.{Bool.Decides.nat_tests, List.{Concat.flat_map-append, Elements.filter-append}}
+use Rattle.ultra_msg.specs.declared.{Request.Request, ReplyMessage.ReplyMessage, Event.{Event, TheVariants.{Delivered, Served, Combined, Issued}}}
 use Rattle.ultra_isa.specs.declared.Instr.{Instr}
-use Rattle.ultra_model.specs.Machine.{Settings, Element, size, element_at}
-use Rattle.ultra_model.specs.Places.{places, present}
-use Rattle.ultra_model.specs.Phases.{after, deliver, delivery, issue_event, issues_after}
-use Rattle.ultra_model.specs.Ranges.{AreInRange}
-use Rattle.ultra_model.proofs.Each.{each-append, each-present, each-places, each-weaker, places_at}
-use Rattle.ultra_model.proofs.AtPlaces.{element-reply_phase, element-memory_phase, element-request_phase, element-processor_phase}
-use Rattle.ultra_serial_law.specs.declared.records.LoggedIssue.{LoggedIssue}
-use Rattle.ultra_serial_law.specs.declared.records.LoggedAnswer.{LoggedAnswer}
-use Rattle.ultra_serial_law.specs.SerialList.{History, history, noted, after_event}
-use Rattle.ultra_serial_law.proofs.MemoryForest.{noted-append}
-use Rattle.ultra_serial_law.proofs.Answered.{IsNoDelivery, same_answers}
-use Rattle.ultra_latency.specs.declared.open.OpenRequest.{OpenRequest}
-use Rattle.ultra_latency.specs.Open.{request_for, row, open_request, open_rows, IsOpenIn}
-use Rattle.ultra_serial_law.specs.Log.{latest_number}
-use Rattle.ultra_latency.proofs.Rows.{IsNeutral}
+use Rattle.ultra_model.specs.{Machine.{Settings, Element, size, element_at}, Places.{places, present}, Phases.{after, deliver, delivery, issue_event, issues_after}, Ranges.AreInRange}
+use Rattle.ultra_model.proofs.{Each.{each-append, each-present, each-places, each-weaker, places_at}, AtPlaces.{element-reply_phase, element-memory_phase, element-request_phase, element-processor_phase}}
+use Rattle.ultra_serial_law.specs.{declared.records.{LoggedIssue.LoggedIssue, LoggedAnswer.LoggedAnswer}, SerialList.{History, history, noted, after_event}, Log.latest_number}
+use Rattle.ultra_serial_law.proofs.{MemoryForest.noted-append, Answered.{IsNoDelivery, same_answers}}
+use Rattle.ultra_latency.specs.{declared.open.OpenRequest.OpenRequest, Open.{request_for, row, open_request, open_rows, IsOpenIn}}
+use Rattle.ultra_latency.proofs.{Rows.IsNeutral, Deliveries.{brought_own, knows, left_out}, Issues.put_in, Places.row_next, OpenLaw.fresh_rows}
 use Rattle.ultra_latency.proofs.CycleEvents.{before, replied, remembered, requested, brought, deliveries, others, issues, sent, next_is, events_are, others_neutral}
-use Rattle.ultra_latency.proofs.Deliveries.{brought_own, knows, left_out}
 use Rattle.ultra_latency.proofs.OwnIssues.{IsNoIssue, shown_if, one_shown, own, logged_as, logged_if, next_number, next_history, own_next, first, middle}
-use Rattle.ultra_latency.proofs.Issues.{put_in}
-use Rattle.ultra_latency.proofs.Places.{row_next}
-use Rattle.ultra_latency.proofs.OpenLaw.{fresh_rows}
 use Rattle.ultra_requests.specs.CycleRows.{answer_in, answers_of_cycle, log_after}
-use Rattle.ultra_requests.proofs.NamedLines.{number_latest}
-use Rattle.ultra_requests.proofs.Numbered.{IsInStep, answered_step, issued_step}
+use Rattle.ultra_requests.proofs.{NamedLines.number_latest, Numbered.{IsInStep, answered_step, issued_step}}
 
 -- ---- the answers of a cycle
 noted_answers : (n : ℕ) (es : List Event) (h : History) → AllByRecursion IsNoIssue es → (noted n es h).log.answers ≡ h.log.answers ++ flat_map (answer_in n h.log.issues) es

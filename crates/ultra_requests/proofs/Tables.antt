@@ -1,35 +1,21 @@
 -- the table of a run is made of the rows of its cycles and of those at its end
 use Rattle.std.proofs.Common.{ℕ, zero, suc, ◌≡◌, ◌≢◌, ◌+◌, ◌<◌, ◌≤◌, List, [], ◌∷◌, ◌++◌, length, Bool, true, false, not, ◌||◌, ◌&&◌, cond, map, append-nil, append_assoc, refl, sym, ap, ◌∙◌, subst, arith}
-use Rattle.std.specs.Prelude.{Option, Some, None, option_to_list, ◌==◌}
+use Rattle.std.specs.{Prelude.{Option, Some, None, option_to_list, ◌==◌}, Option.option_or}
 use Rattle.std.specs.List.{AllByRecursion, filter, find, flat_map, list_any, range_with_len}
-use Rattle.std.specs.Option.{option_or}
-use Rattle.std.proofs.lemmas.Bool.{eqb-true, cases_Bool}
-use Rattle.std.proofs.lemmas.Bool.Decides.{nat_tests}
-use Rattle.std.proofs.lemmas.List.Concat.{flat_map-append}
-use Rattle.std.proofs.lemmas.List.Folds.{find-append}
-use Rattle.ultra_msg.specs.declared.Event.{Event}
-use Rattle.ultra_msg.specs.declared.Event.TheVariants.{Delivered, Served, Combined, Issued}
+use Rattle.std.proofs.lemmas.{Bool.{eqb-true, cases_Bool, Decides.nat_tests}, List.{Concat.flat_map-append, Folds.find-append}}
+use Rattle.ultra_msg.specs.declared.Event.{Event, TheVariants.{Delivered, Served, Combined, Issued}}
 use Rattle.ultra_isa.specs.declared.Instr.{Instr}
-use Rattle.ultra_model.specs.Machine.{Settings, size}
-use Rattle.ultra_model.specs.Phases.{after}
-use Rattle.ultra_model.specs.Ranges.{AreInRange}
+use Rattle.ultra_model.specs.{Machine.{Settings, size}, Phases.after, Ranges.AreInRange, Trace.{by_number, cycle_count}}
 use Rattle.ultra_model.proofs.Each.{each-append, each-weaker}
-use Rattle.ultra_model.specs.Trace.{by_number, cycle_count}
-use Rattle.ultra_serial_law.specs.declared.records.LoggedIssue.{LoggedIssue}
-use Rattle.ultra_serial_law.specs.declared.records.LoggedAnswer.{LoggedAnswer}
-use Rattle.ultra_serial_law.specs.SerialList.{history}
+use Rattle.ultra_serial_law.specs.{declared.records.{LoggedIssue.LoggedIssue, LoggedAnswer.LoggedAnswer}, SerialList.history}
 use Rattle.ultra_serial_law.proofs.ProcessorForest.{issues_noted, noted_issues}
 use Rattle.ultra_trace_text.proofs.Numbered.{by_number_more}
 use Rattle.ultra_trace_alone.specs.RunText.{run_text}
-use Rattle.ultra_latency.specs.declared.open.OpenRequest.{OpenRequest}
-use Rattle.ultra_latency.specs.Open.{row, open_rows}
+use Rattle.ultra_latency.specs.{declared.open.OpenRequest.OpenRequest, Open.{row, open_rows}}
 use Rattle.ultra_latency.proofs.OwnIssues.{logged_as, next_history, own}
 use Rattle.ultra_requests.specs.RequestTable.{Row, answered_row, answered_rows, header_line, is_answer_to, is_answered, requests_of, row_line, waiting, waiting_rows}
-use Rattle.ultra_requests.specs.CycleRows.{answer_in, answers_of_cycle, log_after, rows_at_end, rows_of_cycle}
-use Rattle.ultra_requests.specs.Along.{logged_issue, waiting_all, waiting_line, waiting_text}
-use Rattle.ultra_requests.proofs.Numbered.{as_open, cond_tested, is_numbered, left_by, opens}
-use Rattle.ultra_requests.proofs.Steps.{answers_next, in_step, own_answers}
-use Rattle.ultra_requests.proofs.Found.{IsFound, all_found}
+use Rattle.ultra_requests.specs.{CycleRows.{answer_in, answers_of_cycle, log_after, rows_at_end, rows_of_cycle}, Along.{logged_issue, waiting_all, waiting_line, waiting_text}}
+use Rattle.ultra_requests.proofs.{Numbered.{as_open, cond_tested, is_numbered, left_by, opens}, Steps.{answers_next, in_step, own_answers}, Found.{IsFound, all_found}}
 
 -- ---- the issues so far stay where they are
 abbrev IsLonger : List LoggedIssue → List LoggedIssue → Type 0

@@ -3,13 +3,10 @@ use Rattle.std.specs.Prelude.{ℕ, ◌≡◌, List, [], ◌∷◌, ◌++◌, cod
 use Rattle.std.specs.Fmt.{digits}
 use Rattle.ultra_isa.specs.declared.Instr.{Instr}
 use Rattle.ultra_isa.specs.declared.Instr.TheVariants as instr
-use Rattle.ultra_model.specs.Places.{places}
-use Rattle.ultra_model.specs.Machine.{Settings, start}
+use Rattle.ultra_model.specs.{Places.places, Machine.{Settings, start}, Trace.cycle_count}
 use Rattle.ultra_model.specs.Phases.{after, cycle, reply_phase, memory_phase, request_phase, processor_phase, arriving_reply, arriving_request}
-use Rattle.ultra_model.specs.Trace.{cycle_count}
 use Rattle.ultra_serial_law.specs.SerialList.{history}
-use Rattle.ultra_requests.specs.EventLines.{events_of, lines_of_cycle}
-use Rattle.ultra_requests.specs.RequestTable.{requests_of}
+use Rattle.ultra_requests.specs.{EventLines.{events_of, lines_of_cycle}, RequestTable.requests_of}
 
 abbrev one_stage : Settings
 one_stage = record { stages = 1; request_places = 4; reply_places = 8; wait_places = 4; most_open = 2; cells = 16; cycles = 1000; initial = [] }

@@ -1,15 +1,11 @@
 -- what is written of events in their order, as the open requests change with them
 use Rattle.std.specs.Prelude.{ℕ, List, [], ◌∷◌, ◌++◌, Option, Some, None, length, ◌<◌}
 use Rattle.std.specs.List.{flat_map}
-use Rattle.ultra_msg.specs.declared.ReplyMessage.{ReplyMessage}
-use Rattle.ultra_msg.specs.declared.Event.{Event}
-use Rattle.ultra_msg.specs.declared.Event.TheVariants.{Delivered, Served, Combined, Issued}
+use Rattle.ultra_msg.specs.declared.{ReplyMessage.ReplyMessage, Event.{Event, TheVariants.{Delivered, Served, Combined, Issued}}}
 use Rattle.ultra_model.specs.Trace.{by_number}
 use Rattle.ultra_serial_law.specs.declared.records.LoggedIssue.{LoggedIssue}
-use Rattle.ultra_latency.specs.declared.open.OpenRequest.{OpenRequest}
-use Rattle.ultra_latency.specs.Open.{answered_at, request_for, row, rows_with}
-use Rattle.ultra_requests.specs.EventLines.{event_line}
-use Rattle.ultra_requests.specs.RequestTable.{row_line}
+use Rattle.ultra_latency.specs.{declared.open.OpenRequest.OpenRequest, Open.{answered_at, request_for, row, rows_with}}
+use Rattle.ultra_requests.specs.{EventLines.event_line, RequestTable.row_line}
 
 -- an open request of processing element p, as the log has it
 abbrev pub logged_issue : ℕ → OpenRequest → LoggedIssue

@@ -1,16 +1,9 @@
 -- the rows of requests cycle by cycle, as they are written
-use Rattle.std.specs.Prelude.{ℕ, ◌+◌, List, [], ◌∷◌}
-use Rattle.std.specs.List.{flat_map, range_with_len}
-use Rattle.ultra_msg.specs.declared.Event.{Event}
-use Rattle.ultra_msg.specs.declared.Event.TheVariants.{Delivered, Served, Combined, Issued}
+use Rattle.std.specs.{Prelude.{ℕ, ◌+◌, List, [], ◌∷◌}, List.{flat_map, range_with_len}}
+use Rattle.ultra_msg.specs.declared.Event.{Event, TheVariants.{Delivered, Served, Combined, Issued}}
 use Rattle.ultra_isa.specs.declared.Instr.{Instr}
-use Rattle.ultra_model.specs.Machine.{Settings, size}
-use Rattle.ultra_model.specs.Phases.{after}
-use Rattle.ultra_model.specs.Trace.{cycle_count}
-use Rattle.ultra_serial_law.specs.declared.records.LoggedIssue.{LoggedIssue}
-use Rattle.ultra_serial_law.specs.declared.records.LoggedAnswer.{LoggedAnswer}
-use Rattle.ultra_serial_law.specs.Log.{Log, latest_number}
-use Rattle.ultra_serial_law.specs.SerialList.{history}
+use Rattle.ultra_model.specs.{Machine.{Settings, size}, Phases.after, Trace.cycle_count}
+use Rattle.ultra_serial_law.specs.{declared.records.{LoggedIssue.LoggedIssue, LoggedAnswer.LoggedAnswer}, Log.{Log, latest_number}, SerialList.history}
 use Rattle.ultra_requests.specs.RequestTable.{answered_rows, row_line, waiting_rows}
 
 -- the answer that an event of a cycle logs, after these issues

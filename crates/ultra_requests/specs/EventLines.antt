@@ -1,16 +1,10 @@
 -- the events of a run, a line each; this project's profile
 use Rattle.std.specs.Prelude.{ℕ, ◌+◌, List, [], ◌++◌, Bool, true, false, ◌&&◌, nat_le, codes, decimal}
 use Rattle.std.specs.List.{flat_map}
-use Rattle.ultra_msg.specs.declared.Event.{Event}
-use Rattle.ultra_msg.specs.declared.Event.TheVariants.{Delivered, Served, Combined, Issued}
+use Rattle.ultra_msg.specs.declared.Event.{Event, TheVariants.{Delivered, Served, Combined, Issued}}
 use Rattle.ultra_isa.specs.declared.Instr.{Instr}
-use Rattle.ultra_model.specs.declared.Stop.{Stop}
-use Rattle.ultra_model.specs.Machine.{Settings}
-use Rattle.ultra_model.specs.Phases.{after}
-use Rattle.ultra_model.specs.Text.{newline, op_text, reply_text, fault_text}
-use Rattle.ultra_model.specs.Trace.{by_number, cycle_count}
-use Rattle.ultra_serial_law.specs.Log.{latest_number}
-use Rattle.ultra_serial_law.specs.SerialList.{history}
+use Rattle.ultra_model.specs.{declared.Stop.Stop, Machine.Settings, Phases.after, Text.{newline, op_text, reply_text, fault_text}, Trace.{by_number, cycle_count}}
+use Rattle.ultra_serial_law.specs.{Log.latest_number, SerialList.history}
 
 -- a request by its name and cell, `P.N@A`: the processing element, the request's number among the
 -- issues of that one, and the cell

@@ -1,16 +1,10 @@
 -- the requests of a run as a table in CSV; this project's profile
 use Rattle.std.specs.Prelude.{ℕ, List, [], ◌∷◌, ◌++◌, Bool, not, ◌&&◌, ◌==◌, map, Option, Some, None, option_to_list, codes, decimal}
 use Rattle.std.specs.List.{filter, find, flat_map, list_any, range_with_len}
-use Rattle.ultra_msg.specs.declared.Op.{Op}
-use Rattle.ultra_msg.specs.declared.Op.TheVariants.{Load, Store, Faa, Swap}
+use Rattle.ultra_msg.specs.declared.Op.{Op, TheVariants.{Load, Store, Faa, Swap}}
 use Rattle.ultra_isa.specs.declared.Instr.{Instr}
-use Rattle.ultra_model.specs.Machine.{Settings, size}
-use Rattle.ultra_model.specs.Text.{newline, reply_text}
-use Rattle.ultra_model.specs.Trace.{cycle_count}
-use Rattle.ultra_serial_law.specs.declared.records.LoggedIssue.{LoggedIssue}
-use Rattle.ultra_serial_law.specs.declared.records.LoggedAnswer.{LoggedAnswer}
-use Rattle.ultra_serial_law.specs.Log.{Log}
-use Rattle.ultra_serial_law.specs.SerialList.{history}
+use Rattle.ultra_model.specs.{Machine.{Settings, size}, Text.{newline, reply_text}, Trace.cycle_count}
+use Rattle.ultra_serial_law.specs.{declared.records.{LoggedIssue.LoggedIssue, LoggedAnswer.LoggedAnswer}, Log.Log, SerialList.history}
 
 -- a row: an issue, and its answer where it has one
 pub record Row : Type 0 where

@@ -1,13 +1,8 @@
 -- the rows of the table are those of the log
 use Rattle.std.specs.Prelude.{◌≡◌, ◌<◌, ◌⊎◌, ℕ, List, true, Option, Some, None, AllPairs, slice_get}
 use Rattle.ultra_isa.specs.declared.Instr.{Instr}
-use Rattle.ultra_model.specs.Machine.{Settings, size}
-use Rattle.ultra_model.specs.Ranges.{AreInRange}
-use Rattle.ultra_serial_law.specs.declared.records.LoggedIssue.{LoggedIssue}
-use Rattle.ultra_serial_law.specs.declared.records.LoggedAnswer.{LoggedAnswer}
-use Rattle.ultra_serial_law.specs.Legal.{Has}
-use Rattle.ultra_serial_law.specs.Log.{Log}
-use Rattle.ultra_serial_law.specs.SerialList.{history}
+use Rattle.ultra_model.specs.{Machine.{Settings, size}, Ranges.AreInRange}
+use Rattle.ultra_serial_law.specs.{declared.records.{LoggedIssue.LoggedIssue, LoggedAnswer.LoggedAnswer}, Legal.Has, Log.Log, SerialList.history}
 use Rattle.ultra_requests.specs.RequestTable.{Row, is_answer_to, request_rows}
 
 -- whether the first of two pairs of numbers is less: by the first numbers, and where these are the

@@ -1,11 +1,9 @@
 //! What is written of the events of a cycle, as the open requests change with them.
 
-ghost use Rattle.std.specs.Prelude.{◌≡◌, ◌++◌, vec_capacity};
-ghost use Rattle.std.specs.List.{flat_map};
+ghost use Rattle.std.specs.{Prelude.{◌≡◌, ◌++◌, vec_capacity}, List.flat_map};
 ghost use Rattle.ultra_io.specs.TextBuffer.{Writes};
 ghost use Rattle.ultra_latency.specs.Open.{rows_after, HavePlaces};
-ghost use Rattle.ultra_requests.specs.Along.{along, event_line_at, row_at, HaveRows};
-ghost use Rattle.ultra_requests.specs.EventLines.{stop_line};
+ghost use Rattle.ultra_requests.specs.{Along.{along, event_line_at, row_at, HaveRows}, EventLines.stop_line};
 
 use crate::lines::{put_event, put_stop};
 use crate::rows::put_answered;

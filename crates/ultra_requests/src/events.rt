@@ -4,9 +4,7 @@ ghost use Rattle.std.specs.Prelude.{◌≡◌, ◌≢◌, ◌+◌, ◌<◌, [], 
 ghost use Rattle.ultra_msg.specs.Bytes.{TakesPrefix};
 ghost use Rattle.ultra_io.specs.TextBuffer.{Writes};
 ghost use Rattle.ultra_latency.specs.Open.{IsOpenTable};
-ghost use Rattle.ultra_trace_alone.specs.declared.fault.RunFault.TheVariants.{NoMemory, NoThread};
-ghost use Rattle.ultra_trace_alone.specs.BlocksAfter.{IsAfter};
-ghost use Rattle.ultra_trace_alone.specs.Faults.{sink_faults};
+ghost use Rattle.ultra_trace_alone.specs.{declared.fault.RunFault.TheVariants.{NoMemory, NoThread}, BlocksAfter.IsAfter, Faults.sink_faults};
 ghost use Rattle.ultra_requests.specs.EventLines.{events_of, lines_of_cycle, shown_of_cycle};
 
 use crate::cycle::{note_unwritten_events, put_event_lines, put_stops};

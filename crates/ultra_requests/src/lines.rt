@@ -3,8 +3,7 @@
 ghost use Rattle.std.specs.Prelude.{◌≡◌, ◌<◌, ◌++◌, length, codes, decimal};
 ghost use Rattle.ultra_model.specs.Text.{newline, op_text, reply_text};
 ghost use Rattle.ultra_io.specs.TextBuffer.{Writes};
-ghost use Rattle.ultra_requests.specs.Along.{event_line_at, number_in_rows, HasRows};
-ghost use Rattle.ultra_requests.specs.EventLines.{named_text, stop_line};
+ghost use Rattle.ultra_requests.specs.{Along.{event_line_at, number_in_rows, HasRows}, EventLines.{named_text, stop_line}};
 
 use crate::texts::{
     begin_line, end_line, write_fault, write_named, write_op, write_order, write_reply,

@@ -4,10 +4,8 @@ ghost use Rattle.std.specs.Prelude.{◌≡◌, ◌≢◌, ◌+◌, ◌<◌, ◌+
 ghost use Rattle.ultra_msg.specs.Bytes.{TakesPrefix};
 ghost use Rattle.ultra_io.specs.TextBuffer.{Writes};
 ghost use Rattle.ultra_latency.specs.Open.{IsOpenTable};
-ghost use Rattle.ultra_trace_alone.specs.declared.fault.RunFault.TheVariants.{NoMemory, NoThread};
-ghost use Rattle.ultra_trace_alone.specs.Faults.{sink_faults};
-ghost use Rattle.ultra_requests.specs.RequestTable.{header_line, requests_of};
-ghost use Rattle.ultra_requests.specs.CycleRows.{rows_of_cycle, rows_at_end};
+ghost use Rattle.ultra_trace_alone.specs.{declared.fault.RunFault.TheVariants.{NoMemory, NoThread}, Faults.sink_faults};
+ghost use Rattle.ultra_requests.specs.{RequestTable.{header_line, requests_of}, CycleRows.{rows_of_cycle, rows_at_end}};
 
 use crate::cycle::put_answers;
 use crate::rows::{put_header, put_waiting};

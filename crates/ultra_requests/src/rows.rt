@@ -1,8 +1,7 @@
 //! The rows of the table of requests.
 
 ghost use Rattle.std.specs.Prelude.{◌≡◌, ◌+◌, ◌<◌, ◌≤◌, ◌++◌, None, length, codes};
-ghost use Rattle.ultra_io.specs.TextBuffer.{Begins, Writes};
-ghost use Rattle.ultra_io.specs.declared.filled_bytes.TheConstants.{BUFFER_BYTES};
+ghost use Rattle.ultra_io.specs.{TextBuffer.{Begins, Writes}, declared.filled_bytes.TheConstants.BUFFER_BYTES};
 ghost use Rattle.ultra_requests.specs.Along.{answered_line, answer_if, logged_issue, waiting_all, waiting_line, waiting_text};
 ghost use Rattle.ultra_requests.specs.RequestTable.{header_line, issue_text, row_line};
 

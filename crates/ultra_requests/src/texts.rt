@@ -2,10 +2,8 @@
 
 ghost use Rattle.std.specs.Prelude.{◌≡◌, ◌+◌, ◌<◌, ◌≤◌, ◌++◌, codes, decimal};
 ghost use Rattle.ultra_model.specs.Text.{fault_text, newline, op_text, reply_text};
-ghost use Rattle.ultra_io.specs.TextBuffer.{Begins, Ends, GoesOn};
-ghost use Rattle.ultra_io.specs.declared.filled_bytes.TheConstants.{BUFFER_BYTES};
-ghost use Rattle.ultra_requests.specs.EventLines.{named_text, order_sign};
-ghost use Rattle.ultra_requests.specs.RequestTable.{op_name, word_text};
+ghost use Rattle.ultra_io.specs.{TextBuffer.{Begins, Ends, GoesOn}, declared.filled_bytes.TheConstants.BUFFER_BYTES};
+ghost use Rattle.ultra_requests.specs.{EventLines.{named_text, order_sign}, RequestTable.{op_name, word_text}};
 
 use ultra_io::TextBuffer;
 use ultra_isa::MachineFault;

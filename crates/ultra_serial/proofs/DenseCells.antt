@@ -1,10 +1,8 @@
 -- the cells of a memory that has places for the first addresses, after one is set
-use Rattle.std.proofs.Common.{◌≡◌, ℕ, ◌<◌, ◌≤◌, ◌⊎◌, length, get_or, set, List, Bool, true, false, refl, sym, arith, ap, ◌∙◌, cond, nat_lt, inl, inr}
+use Rattle.std.proofs.Common.{◌≡◌, ℕ, ◌<◌, ◌≤◌, ◌⊎◌, length, get_or, set, List, Bool, true, false, refl, sym, arith, ap, ◌∙◌, cond, nat_lt, inl, inr, length-set}
 use Rattle.std.specs.Prelude.{◌≢◌}
-use Rattle.std.proofs.Common.{length-set}
-use Rattle.std.proofs.Math.Path.{fun_ext}
+use Rattle.std.proofs.{Math.Path.fun_ext, lemmas.List.{get_or-set_same, get_or-set_other}}
 use Rattle.std.proofs.lemmas.Bool.{cases_eq, cond-true, cond-false, lt-ltb, ltb-true, eq-eqb, ne_eqb, false_from_ne_true}
-use Rattle.std.proofs.lemmas.List.{get_or-set_same, get_or-set_other}
 use Rattle.ultra_serial_law.specs.Legal.{Cells, with_cell}
 use Rattle.ultra_serial.specs.DenseCells.{cells_over}
 

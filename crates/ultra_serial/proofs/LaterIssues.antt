@@ -2,13 +2,9 @@
 use Rattle.std.proofs.Common.{◌≡◌, ℕ, ◌+◌, ◌-◌, ◌<◌, ◌≤◌, ◌⊎◌, List, [], ◌∷◌, ◌++◌, length, sym, ap, subst, ◌∙◌, arith, inl, inr, ⊎_elim, Option, Some, None}
 use Rattle.std.specs.Prelude.{slice_get}
 use Rattle.std.proofs.lemmas.Option.{slice_get_within}
-use Rattle.ultra_serial_law.specs.declared.records.LoggedIssue.{LoggedIssue}
-use Rattle.ultra_serial_law.specs.declared.records.Entry.{Entry}
-use Rattle.ultra_serial_law.specs.Log.{Log}
-use Rattle.ultra_serial_law.specs.Legal.{Has, IsIssueNamed}
+use Rattle.ultra_serial_law.specs.{declared.records.{LoggedIssue.LoggedIssue, Entry.Entry}, Log.Log, Legal.{Has, IsIssueNamed}}
 use Rattle.ultra_serial_law.proofs.Lists.{get_left}
-use Rattle.ultra_serial.specs.LatestIssue.{IsLatestIssue, IsLatestIssueOf, AreIssuesOf, first_cycle_after}
-use Rattle.ultra_serial.specs.RecordsByName.{AreIssuesByName}
+use Rattle.ultra_serial.specs.{LatestIssue.{IsLatestIssue, IsLatestIssueOf, AreIssuesOf, first_cycle_after}, RecordsByName.AreIssuesByName}
 use Rattle.ultra_serial.proofs.Explaining.{get_push, has_push, get_last}
 
 module _ (log : Log) (before : List Entry) where

@@ -1,18 +1,10 @@
 -- the latest numbers, after one is set or a row is added
 use Rattle.std.proofs.Common.{◌≡◌, ◌≢◌, ℕ, ◌<◌, ◌⊎◌, List, [], ◌∷◌, ◌++◌, length, set, Bool, true, false, cond, refl, sym, ap, subst, ◌∙◌, inl, inr}
-use Rattle.std.specs.Prelude.{Option, Some, None, slice_get}
-use Rattle.std.specs.Option.{unwrap_or}
-use Rattle.std.specs.BTreeMap.{BTreeMap, get, Updates}
+use Rattle.std.specs.{Prelude.{Option, Some, None, slice_get}, Option.unwrap_or, BTreeMap.{BTreeMap, get, Updates}}
 use Rattle.std.proofs.lemmas.Bool.{cases_eq}
 use Rattle.ultra_serial_law.specs.Legal.{Cells, with_cell}
-use Rattle.ultra_serial.specs.declared.dense_memory.DenseMemory.{DenseMemory}
-use Rattle.ultra_serial.specs.ByPair.{is_pair}
-use Rattle.ultra_serial.specs.DenseCells.{dense_cells}
-use Rattle.ultra_serial.specs.LatestNumbers.{numbers_of, number_under, numbers_with}
-use Rattle.ultra_serial.proofs.ByPair.{pair_cmp, pair_test, same_pair}
-use Rattle.ultra_serial.proofs.DenseCells.{at_cell, past_cell}
-use Rattle.ultra_serial.proofs.Places.{get_set, get_other, get_end, get_before_end}
-use Rattle.ultra_serial.proofs.RecordsByName.{pair_same}
+use Rattle.ultra_serial.specs.{declared.dense_memory.DenseMemory.DenseMemory, ByPair.is_pair, DenseCells.dense_cells, LatestNumbers.{numbers_of, number_under, numbers_with}}
+use Rattle.ultra_serial.proofs.{ByPair.{pair_cmp, pair_test, same_pair}, DenseCells.{at_cell, past_cell}, Places.{get_set, get_other, get_end, get_before_end}, RecordsByName.pair_same}
 
 abbrev pub numbers_over : List DenseMemory → (ℕ → Cells) → ℕ → ℕ → ℕ
 numbers_over rows others p a = numbers_of (slice_get rows p) (others p) a

@@ -2,17 +2,11 @@
 use Rattle.std.proofs.Common.{◌≡◌, ℕ, zero, suc, ◌+◌, ◌<◌, ◌≤◌, ◌%◌, ◌⊎◌, List, [], ◌∷◌, ◌++◌, length, take, drop, set, Bool, true, false, refl, sym, arith, ap, ◌∙◌, subst, ⊎_elim, inl, inr, option_to_list}
 use Rattle.std.specs.Prelude.{◌≢◌, Option, Some, None, IfNone, slice_get}
 use Rattle.std.specs.Global.{Vec}
-use Rattle.std.proofs.lemmas.List.{append-nil}
-use Rattle.std.proofs.lemmas.Bool.{cases_eq, cases_Bool}
-use Rattle.std.proofs.lemmas.Option.{slice_get_past}
+use Rattle.std.proofs.lemmas.{List.append-nil, Bool.{cases_eq, cases_Bool}, Option.slice_get_past}
 use Rattle.ultra_serial_law.specs.declared.records.NamedRequest.{NamedRequest}
-use Rattle.ultra_serial.specs.declared.pending_row.PendingRequest.{PendingRequest}
-use Rattle.ultra_serial.specs.declared.pending_row.PendingRow.{PendingRow}
-use Rattle.ultra_serial.specs.ByPair.{is_pair, with_item}
+use Rattle.ultra_serial.specs.{declared.pending_row.{PendingRequest.PendingRequest, PendingRow.PendingRow}, ByPair.{is_pair, with_item}, PendingRequests.{requests_in, chains_in}}
 use Rattle.ultra_serial.specs.PendingRow.{first_if, leaves_under, items_in, leaves_in_order, last_joined, with_joined}
-use Rattle.ultra_serial.specs.PendingRequests.{requests_in, chains_in}
-use Rattle.ultra_serial.proofs.ByPair.{same_pair}
-use Rattle.ultra_serial.proofs.Places.{get_set, get_other}
+use Rattle.ultra_serial.proofs.{ByPair.same_pair, Places.{get_set, get_other}}
 
 front_append : {X : Type 0} (t : Bool) (x : X) (xs ys : List X) → first_if t x (xs ++ ys) ≡ first_if t x xs ++ ys
 front_append true x xs ys = refl

@@ -1,13 +1,9 @@
 -- lists by name, where a place is made or set, or an item comes to the map
 use Rattle.std.proofs.Common.{◌≡◌, ℕ, zero, suc, ◌<◌, ◌≤◌, ◌⊎◌, List, [], ◌∷◌, ◌++◌, Bool, true, false, length, set, get_or, refl, sym, arith, ap, ◌∙◌, inl, inr, subst}
-use Rattle.std.specs.Prelude.{◌≢◌, Some, slice_get, slice_index}
-use Rattle.std.specs.Global.{Vec}
-use Rattle.std.proofs.lemmas.Bool.{cases_eq}
-use Rattle.std.proofs.lemmas.Option.{slice_get_past, slice_get_read}
-use Rattle.ultra_serial.specs.ByPair.{is_pair, with_item, lists_with}
-use Rattle.ultra_serial.specs.ByName.{one_at, place_in, place_of, list_or}
-use Rattle.ultra_serial.proofs.ByPair.{same_pair}
-use Rattle.ultra_serial.proofs.RecordsByName.{pair_same}
+use Rattle.std.specs.{Prelude.{◌≢◌, Some, slice_get, slice_index}, Global.Vec}
+use Rattle.std.proofs.lemmas.{Bool.cases_eq, Option.{slice_get_past, slice_get_read}}
+use Rattle.ultra_serial.specs.{ByPair.{is_pair, with_item, lists_with}, ByName.{one_at, place_in, place_of, list_or}}
+use Rattle.ultra_serial.proofs.{ByPair.same_pair, RecordsByName.pair_same}
 
 pub get_set : {X : Type 0} (xs : List X) (i : ℕ) (y : X) → i < length xs → slice_get (set xs i y) i ≡ Some y
 get_set [] i y l = absurd (omega (arith, l))

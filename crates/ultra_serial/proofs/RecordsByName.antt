@@ -2,16 +2,8 @@
 use Rattle.std.proofs.Common.{◌≡◌, ℕ, ◌+◌, ◌<◌, ◌≤◌, ◌⊎◌, List, [], ◌∷◌, ◌++◌, Bool, true, false, length, sym, subst, arith, inl, inr, ⊎_elim}
 use Rattle.std.specs.Prelude.{◌≢◌}
 use Rattle.std.proofs.lemmas.Bool.Decides.{nat_tests}
-use Rattle.ultra_serial.specs.declared.records_by_name.RecordsByName.{RecordsByName}
-use Rattle.ultra_serial.specs.ByPair.{is_pair, with_item, lists_with}
-use Rattle.ultra_serial_law.specs.declared.records.LoggedIssue.{LoggedIssue}
-use Rattle.ultra_serial_law.specs.declared.records.LoggedAnswer.{LoggedAnswer}
-use Rattle.ultra_serial_law.specs.Log.{Log}
-use Rattle.ultra_serial_law.specs.declared.records.Entry.{Entry}
-use Rattle.ultra_serial_law.specs.Legal.{Has, IsIssueNamed, IsAnswerTo, IsIssueOf}
-use Rattle.ultra_serial.specs.Breach.{HasNameOf}
-use Rattle.ultra_serial.specs.Examined.{IsListed}
-use Rattle.ultra_serial.specs.RecordsByName.{AreByName, Holds, issues_named, answers_named, entries_named}
+use Rattle.ultra_serial.specs.{declared.records_by_name.RecordsByName.RecordsByName, ByPair.{is_pair, with_item, lists_with}, Breach.HasNameOf, Examined.IsListed, RecordsByName.{AreByName, Holds, issues_named, answers_named, entries_named}}
+use Rattle.ultra_serial_law.specs.{declared.records.{LoggedIssue.LoggedIssue, LoggedAnswer.LoggedAnswer, Entry.Entry}, Log.Log, Legal.{Has, IsIssueNamed, IsAnswerTo, IsIssueOf}}
 use Rattle.ultra_serial_law.proofs.Lists.{get_left}
 use Rattle.ultra_serial.proofs.Explaining.{has_push, get_last}
 

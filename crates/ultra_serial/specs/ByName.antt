@@ -1,8 +1,7 @@
 -- the items of a list by the name of a request: most in rows by index, the others by pair
 use Rattle.std.specs.Prelude.{ℕ, zero, suc, List, [], ◌∷◌, true, false, Option, Some, None, option_to_list, slice_get, slice_index}
 use Rattle.std.specs.Global.{Vec}
-use Rattle.ultra_serial.specs.declared.by_name.ListsByName.{ListsByName}
-use Rattle.ultra_serial.specs.ByPair.{is_pair, list_of}
+use Rattle.ultra_serial.specs.{declared.by_name.ListsByName.ListsByName, ByPair.{is_pair, list_of}}
 
 -- the item of a place, which is one more than an index, or 0
 abbrev pub one_at : {X : Type 0} → List X → ℕ → List X

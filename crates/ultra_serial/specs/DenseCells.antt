@@ -1,8 +1,7 @@
 -- the cells of a memory that has a table for the lowest addresses
 use Rattle.std.specs.Prelude.{ℕ, List, length, nat_lt, slice_index, if◌then◌else◌}
 use Rattle.ultra_serial_law.specs.Legal.{Cells}
-use Rattle.ultra_serial.specs.declared.dense_memory.DenseMemory.{DenseMemory}
-use Rattle.ultra_serial.specs.Memory.{cell_in}
+use Rattle.ultra_serial.specs.{declared.dense_memory.DenseMemory.DenseMemory, Memory.cell_in}
 
 -- the values of a table, and the cells beyond it
 abbrev pub cells_over : List ℕ → Cells → Cells

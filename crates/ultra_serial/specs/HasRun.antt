@@ -1,8 +1,7 @@
 -- a machine that has made its cycles
 use Rattle.std.specs.Prelude.{◌≡◌, ◌≤◌, ◌⊎◌, ℕ, List, true}
 use Rattle.ultra_isa.specs.declared.Instr.{Instr}
-use Rattle.ultra_model.specs.Machine.{Settings, is_quiet}
-use Rattle.ultra_model.specs.Phases.{after}
+use Rattle.ultra_model.specs.{Machine.{Settings, is_quiet}, Phases.after}
 use Rattle.ultra_machine.specs.MachineState.{MachineState}
 
 -- it is the machine of these settings and this program after n cycles, or where it was quiet first

@@ -1,9 +1,6 @@
 -- the entry of a list that was issued last
 use Rattle.std.specs.Prelude.{◌≡◌, ◌<◌, ◌≤◌, ◌+◌, ℕ, List, Option, Some, None, slice_get}
-use Rattle.ultra_serial_law.specs.declared.records.LoggedIssue.{LoggedIssue}
-use Rattle.ultra_serial_law.specs.declared.records.Entry.{Entry}
-use Rattle.ultra_serial_law.specs.Log.{Log}
-use Rattle.ultra_serial_law.specs.Legal.{Has, IsIssueNamed}
+use Rattle.ultra_serial_law.specs.{declared.records.{LoggedIssue.LoggedIssue, Entry.Entry}, Log.Log, Legal.{Has, IsIssueNamed}}
 
 module _ (log : Log) (list : List Entry) where
   -- the entry was issued in this cycle, no entry later, and none before it in the list so late

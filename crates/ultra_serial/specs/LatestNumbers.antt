@@ -1,13 +1,8 @@
 -- the latest number of each processing element for each cell: by row, or in a map
 use Rattle.std.specs.Prelude.{ℕ, true, false, Option, Some, None, slice_get}
-use Rattle.std.specs.Option.{unwrap_or}
-use Rattle.std.specs.Ordering.{nat_cmp, ordering_then}
-use Rattle.std.specs.BTreeMap.{BTreeMap, get}
+use Rattle.std.specs.{Option.unwrap_or, Ordering.{nat_cmp, ordering_then}, BTreeMap.{BTreeMap, get}}
 use Rattle.ultra_serial_law.specs.Legal.{Cells}
-use Rattle.ultra_serial.specs.declared.dense_memory.DenseMemory.{DenseMemory}
-use Rattle.ultra_serial.specs.declared.latest_numbers.LatestNumbers.{LatestNumbers}
-use Rattle.ultra_serial.specs.ByPair.{is_pair}
-use Rattle.ultra_serial.specs.DenseCells.{dense_cells}
+use Rattle.ultra_serial.specs.{declared.{dense_memory.DenseMemory.DenseMemory, latest_numbers.LatestNumbers.LatestNumbers}, ByPair.is_pair, DenseCells.dense_cells}
 
 -- the numbers of a row by cell, or others where there is no row
 abbrev pub numbers_of : Option DenseMemory → Cells → Cells

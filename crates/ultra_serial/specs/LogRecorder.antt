@@ -1,9 +1,8 @@
 -- what it is to have recorded the issues and answers of a run
 use Rattle.std.specs.Prelude.{◌≡◌, ℕ, List, [], ◌∷◌}
 use Rattle.ultra_msg.specs.declared.Event.{Event}
-use Rattle.ultra_serial.specs.declared.log_recorder.LogRecorder.{LogRecorder}
+use Rattle.ultra_serial.specs.{declared.log_recorder.LogRecorder.LogRecorder, LatestNumbers.number_in}
 use Rattle.ultra_serial_law.specs.Log.{Log, log_of, latest_number, logged}
-use Rattle.ultra_serial.specs.LatestNumbers.{number_in}
 
 pub record Records (r : LogRecorder) (l : Log) : Type 0 where
   pub log : log_of r.log ≡ l

@@ -2,8 +2,7 @@
 use Rattle.std.specs.Prelude.{ℕ, List, [], Bool, false}
 use Rattle.ultra_isa.specs.declared.Instr.{Instr}
 use Rattle.ultra_model.specs.Machine.{Settings}
-use Rattle.ultra_serial_law.specs.declared.records.Entry.{Entry}
-use Rattle.ultra_serial_law.specs.SerialList.{serial_list}
+use Rattle.ultra_serial_law.specs.{declared.records.Entry.Entry, SerialList.serial_list}
 
 -- its settings, its program, how many cycles it makes at most and how many it has made, whether
 -- memory was refused, and what was served in the last cycle

@@ -1,13 +1,8 @@
 -- how the requests on their way to memory are kept: under each identity the leaves of its trees,
 -- the latest last
 use Rattle.std.specs.Prelude.{◌≡◌, ℕ, ◌%◌, List, [], ◌∷◌, Option, Some, None, slice_get}
-use Rattle.ultra_serial.specs.declared.pending_row.PendingRequest.{PendingRequest}
-use Rattle.ultra_serial.specs.declared.pending_row.PendingRow.{PendingRow}
-use Rattle.ultra_serial.specs.declared.pending_requests.PendingRequests.{PendingRequests}
-use Rattle.ultra_serial_law.specs.declared.records.NamedRequest.{NamedRequest}
-use Rattle.ultra_serial_law.specs.Tree.{leaves, Kept, is_under}
-use Rattle.ultra_serial.specs.ByPair.{with_item}
-use Rattle.ultra_serial.specs.PendingRow.{leaves_under}
+use Rattle.ultra_serial.specs.{declared.{pending_row.{PendingRequest.PendingRequest, PendingRow.PendingRow}, pending_requests.PendingRequests.PendingRequests}, ByPair.with_item, PendingRow.leaves_under}
+use Rattle.ultra_serial_law.specs.{declared.records.NamedRequest.NamedRequest, Tree.{leaves, Kept, is_under}}
 
 abbrev pub stacked : ℕ → ℕ → List Kept → List (List NamedRequest)
 stacked p a [] = []

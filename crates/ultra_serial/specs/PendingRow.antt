@@ -1,9 +1,8 @@
 -- the requests of a row, by identity
 use Rattle.std.specs.Prelude.{ℕ, List, [], ◌∷◌, ◌++◌, Bool, true, false, Option, option_map}
 use Rattle.std.specs.Global.{Vec}
-use Rattle.ultra_serial.specs.declared.pending_row.PendingRequest.{PendingRequest}
+use Rattle.ultra_serial.specs.{declared.pending_row.PendingRequest.PendingRequest, ByPair.is_pair}
 use Rattle.ultra_serial_law.specs.declared.records.NamedRequest.{NamedRequest}
-use Rattle.ultra_serial.specs.ByPair.{is_pair}
 
 abbrev pub first_if : {X : Type 0} → Bool → X → List X → List X
 first_if true x xs = x ∷ xs

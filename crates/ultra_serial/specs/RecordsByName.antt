@@ -1,12 +1,7 @@
 -- what it is to keep a log and entries by name
 use Rattle.std.specs.Prelude.{ℕ, List}
-use Rattle.ultra_serial.specs.declared.records_by_name.RecordsByName.{RecordsByName}
-use Rattle.ultra_serial.specs.ByName.{list_named}
-use Rattle.ultra_serial_law.specs.declared.records.LoggedIssue.{LoggedIssue}
-use Rattle.ultra_serial_law.specs.declared.records.LoggedAnswer.{LoggedAnswer}
-use Rattle.ultra_serial_law.specs.Log.{Log}
-use Rattle.ultra_serial_law.specs.declared.records.Entry.{Entry}
-use Rattle.ultra_serial_law.specs.Legal.{Has}
+use Rattle.ultra_serial.specs.{declared.records_by_name.RecordsByName.RecordsByName, ByName.list_named}
+use Rattle.ultra_serial_law.specs.{declared.records.{LoggedIssue.LoggedIssue, LoggedAnswer.LoggedAnswer, Entry.Entry}, Log.Log, Legal.Has}
 
 -- the lists of the names hold what the whole list does, each item under its own name
 pub record AreByName {X : Type 0} (pe number : X → ℕ) (lists : ℕ → ℕ → List X)

@@ -1,11 +1,9 @@
 //! The items of a list by the name of a request, found by index where the numbers of a processing
 //! element have no gaps.
 
-ghost use Rattle.std.specs.Prelude.{◌≡◌, ℕ, ◌+◌, ◌<◌, List, [], true, false, length, IfOk, IfSome, OnOk, slice_get};
-ghost use Rattle.std.specs.Prelude.{Some};
+ghost use Rattle.std.specs.Prelude.{◌≡◌, ℕ, ◌+◌, ◌<◌, List, [], true, false, length, IfOk, IfSome, OnOk, slice_get, Some};
 ghost use Rattle.std.specs.Mem.{FitsInMemory};
-ghost use Rattle.ultra_serial.specs.ByPair.{list_of, lists_with};
-ghost use Rattle.ultra_serial.specs.ByName.{one_at as item_at, place_of, places_with, list_named};
+ghost use Rattle.ultra_serial.specs.{ByPair.{list_of, lists_with}, ByName.{one_at as item_at, place_of, places_with, list_named}};
 
 use crate::by_pair::ListsByPair;
 use crate::dense_memory::zeros;

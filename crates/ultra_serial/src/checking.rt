@@ -1,14 +1,8 @@
 //! Whether a serial list explains a log.
 
 ghost use Rattle.std.specs.Prelude.{◌≡◌, ◌<◌, ℕ, List, [], true, false, Some, None, IfOk, OnOk, IfErr, IfSome, slice_get};
-ghost use Rattle.ultra_serial_law.specs.declared.records.LoggedAnswer.{LoggedAnswer as AnswerOf};
-ghost use Rattle.ultra_serial_law.specs.declared.records.Entry.{Entry as EntryOf};
-ghost use Rattle.ultra_serial_law.specs.Log.{Log as LogOf, log_of};
-ghost use Rattle.ultra_serial_law.specs.Legal.{Cells, given, Has, IsAnswerTo, IsLegal};
-ghost use Rattle.ultra_serial.specs.DenseCells.{dense_cells};
-ghost use Rattle.ultra_serial.specs.Breach.{cells_past, ExplainsCheckFault};
-ghost use Rattle.ultra_serial.specs.Examined.{AreExplained, IsListed, IsFirstMissingAnswer, IsFine, IsWrongAt};
-ghost use Rattle.ultra_serial.specs.RecordsByName.{Holds};
+ghost use Rattle.ultra_serial_law.specs.{declared.records.{LoggedAnswer.LoggedAnswer as AnswerOf, Entry.Entry as EntryOf}, Log.{Log as LogOf, log_of}, Legal.{Cells, given, Has, IsAnswerTo, IsLegal}};
+ghost use Rattle.ultra_serial.specs.{DenseCells.dense_cells, Breach.{cells_past, ExplainsCheckFault}, Examined.{AreExplained, IsListed, IsFirstMissingAnswer, IsFine, IsWrongAt}, RecordsByName.Holds};
 
 use crate::dense_memory::{DenseMemory, MOST_TABLE_CELLS};
 use crate::examining::{after_issues, fault_of, is_answer_to};

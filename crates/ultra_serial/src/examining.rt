@@ -2,15 +2,8 @@
 
 ghost use Rattle.std.specs.Prelude.{◌≡◌, ◌≢◌, ◌<◌, ◌≤◌, ◌+◌, ◌⊎◌, List, true, false, IfOk};
 ghost use Rattle.ultra_msg.specs.Act.{act as effect};
-ghost use Rattle.ultra_serial_law.specs.declared.records.LoggedIssue.{LoggedIssue as IssueOf};
-ghost use Rattle.ultra_serial_law.specs.declared.records.LoggedAnswer.{LoggedAnswer as AnswerOf};
-ghost use Rattle.ultra_serial_law.specs.declared.records.Entry.{Entry as EntryOf};
-ghost use Rattle.ultra_serial_law.specs.Log.{Log as LogOf};
-ghost use Rattle.ultra_serial_law.specs.Legal.{Has, IsIssueNamed, IsAnswerTo, IsIssueOf, with_cell};
-ghost use Rattle.ultra_serial.specs.DenseCells.{dense_cells};
-ghost use Rattle.ultra_serial.specs.Breach.{HasNameOf};
-ghost use Rattle.ultra_serial.specs.Examined.{Finds};
-ghost use Rattle.ultra_serial.specs.RecordsByName.{Holds};
+ghost use Rattle.ultra_serial_law.specs.{declared.records.{LoggedIssue.LoggedIssue as IssueOf, LoggedAnswer.LoggedAnswer as AnswerOf, Entry.Entry as EntryOf}, Log.Log as LogOf, Legal.{Has, IsIssueNamed, IsAnswerTo, IsIssueOf, with_cell}};
+ghost use Rattle.ultra_serial.specs.{DenseCells.dense_cells, Breach.HasNameOf, Examined.Finds, RecordsByName.Holds};
 
 use crate::checking::BreachKind;
 use crate::dense_memory::DenseMemory;

@@ -1,10 +1,7 @@
 //! The entry of a list that was issued last.
 
 ghost use Rattle.std.specs.Prelude.{◌≡◌, ◌≤◌, ◌+◌, ◌++◌, ◌∷◌, [], List, IfOk};
-ghost use Rattle.ultra_serial_law.specs.declared.records.LoggedIssue.{LoggedIssue as IssueOf};
-ghost use Rattle.ultra_serial_law.specs.declared.records.Entry.{Entry as EntryOf};
-ghost use Rattle.ultra_serial_law.specs.Log.{Log as LogOf, log_of};
-ghost use Rattle.ultra_serial_law.specs.Legal.{Has, IsIssueNamed};
+ghost use Rattle.ultra_serial_law.specs.{declared.records.{LoggedIssue.LoggedIssue as IssueOf, Entry.Entry as EntryOf}, Log.{Log as LogOf, log_of}, Legal.{Has, IsIssueNamed}};
 ghost use Rattle.ultra_serial.specs.LatestIssue.{AreIssuesOf, IsLatestIssueOf, first_cycle_after};
 
 use crate::examining::after_issues;

@@ -1,12 +1,9 @@
 //! When the requests of a run were issued and answered.
 
 ghost use Rattle.std.specs.Prelude.{◌≡◌, ℕ, ◌∷◌, ◌++◌, ◌≤◌, List, IfOk, OnOk};
-ghost use Rattle.ultra_model.specs.Machine.{start};
-ghost use Rattle.ultra_serial_law.specs.Log.{Log as LogKept, empty_log, log_of, logged};
-ghost use Rattle.ultra_serial_law.specs.SerialList.{history};
-ghost use Rattle.ultra_serial.specs.LogRecorder.{Records, logged_all};
-ghost use Rattle.ultra_serial.specs.HasRun.{HasRun};
-ghost use Rattle.ultra_model.specs.declared.config.TheConstants.{MOST_CYCLES};
+ghost use Rattle.ultra_model.specs.{Machine.start, declared.config.TheConstants.MOST_CYCLES};
+ghost use Rattle.ultra_serial_law.specs.{Log.{Log as LogKept, empty_log, log_of, logged}, SerialList.history};
+ghost use Rattle.ultra_serial.specs.{LogRecorder.{Records, logged_all}, HasRun.HasRun};
 
 use crate::latest_numbers::LatestNumbers;
 use crate::serial_state::OrderFault;

@@ -3,9 +3,7 @@
 ghost use Rattle.std.specs.Prelude.{◌≡◌, ℕ, ◌+◌, ◌<◌, List, [], ◌∷◌, OnOk, option_map, vec_len};
 ghost use Rattle.ultra_msg.specs.declared.Event.TheVariants.{Combined, Issued};
 ghost use Rattle.ultra_serial_law.specs.Tree.{Tree, leaves as leaves_in, Kept, kept, tree_of, without, trees_after};
-ghost use Rattle.ultra_serial.specs.ByPair.{is_pair};
-ghost use Rattle.ultra_serial.specs.PendingRow.{items_in, with_joined};
-ghost use Rattle.ultra_serial.specs.PendingRequests.{Keeps, chains_in};
+ghost use Rattle.ultra_serial.specs.{ByPair.is_pair, PendingRow.{items_in, with_joined}, PendingRequests.{Keeps, chains_in}};
 
 use crate::NamedRequest;
 use crate::pending_row::{PendingRequest, PendingRow};

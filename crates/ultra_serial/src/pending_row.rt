@@ -1,9 +1,7 @@
 //! The requests of some processing elements that are on their way to memory.
 
 ghost use Rattle.std.specs.Prelude.{◌≡◌, ℕ, ◌+◌, ◌<◌, [], ◌∷◌, ◌++◌, length, take, drop, true, false, Some, IfNone, IfSome, OnOk, option_to_list, slice_get, vec_len};
-ghost use Rattle.ultra_serial.specs.declared.pending_row.PendingRequest.{PendingRequest as RequestOf};
-ghost use Rattle.ultra_serial.specs.ByPair.{is_pair};
-ghost use Rattle.ultra_serial.specs.PendingRow.{leaves_under, items_in, leaves_in_order, with_joined};
+ghost use Rattle.ultra_serial.specs.{declared.pending_row.PendingRequest.PendingRequest as RequestOf, ByPair.is_pair, PendingRow.{leaves_under, items_in, leaves_in_order, with_joined}};
 
 use crate::NamedRequest;
 use std::alloc::{AllocError, Global};

@@ -1,9 +1,7 @@
 //! A log and entries, each kept under its name.
 
 ghost use Rattle.std.specs.Prelude.{◌≡◌, ℕ, ◌<◌, List, [], ◌∷◌, ◌++◌, length, Some, IfOk, OnOk, slice_get};
-ghost use Rattle.ultra_serial_law.specs.declared.records.LoggedIssue.{LoggedIssue as IssueOf};
-ghost use Rattle.ultra_serial_law.specs.declared.records.Entry.{Entry as EntryOf};
-ghost use Rattle.ultra_serial_law.specs.Log.{Log as LogOf, log_of};
+ghost use Rattle.ultra_serial_law.specs.{declared.records.{LoggedIssue.LoggedIssue as IssueOf, Entry.Entry as EntryOf}, Log.{Log as LogOf, log_of}};
 ghost use Rattle.ultra_serial.specs.ByName.{list_named};
 ghost use Rattle.ultra_serial.specs.RecordsByName.{AreIssuesByName, AreAnswersByName, Holds, answers_named, entries_named, issues_named};
 

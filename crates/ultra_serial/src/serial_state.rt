@@ -1,12 +1,8 @@
 //! What the requests of a run did sequentially.
 
 ghost use Rattle.std.specs.Prelude.{◌≡◌, ℕ, [], ◌++◌, List, IfOk, OnOk};
-ghost use Rattle.ultra_serial_law.specs.declared.records.Entry.{Entry as Listed};
-ghost use Rattle.ultra_serial_law.specs.Legal.{cells_after, replayed};
-ghost use Rattle.ultra_serial_law.specs.SerialList.{History, empty_history, after_event, noted};
-ghost use Rattle.ultra_serial.specs.DenseCells.{dense_cells};
-ghost use Rattle.ultra_serial.specs.Following.{Follows};
-ghost use Rattle.ultra_serial.specs.declared.serial_state.OrderFault.TheVariants.{NoMemory};
+ghost use Rattle.ultra_serial_law.specs.{declared.records.Entry.Entry as Listed, Legal.{cells_after, replayed}, SerialList.{History, empty_history, after_event, noted}};
+ghost use Rattle.ultra_serial.specs.{DenseCells.dense_cells, Following.Follows, declared.serial_state.OrderFault.TheVariants.NoMemory};
 
 use crate::dense_memory::DenseMemory;
 use crate::pending_requests::PendingRequests;

@@ -1,17 +1,14 @@
 -- where trees can absorb each of several events at first, they can absorb them in order, if each
 -- reference is named at most once
 use Rattle.std.proofs.Common.{◌≡◌, ◌≢◌, ℕ, ◌+◌, ◌≤◌, List, [], ◌∷◌, ◌++◌, Bool, true, false, refl, arith, sym, subst, inl, inr, ⊎_elim}
-use Rattle.std.specs.Prelude.{Option, Some, None, IsSome, IfSome}
-use Rattle.std.specs.List.{AllByRecursion}
+use Rattle.std.specs.{Prelude.{Option, Some, None, IsSome, IfSome}, List.AllByRecursion}
 use Rattle.std.proofs.lemmas.Bool.{cases_Bool}
-use Rattle.ultra_msg.specs.declared.Event.{Event}
-use Rattle.ultra_msg.specs.declared.Event.TheVariants.{Delivered, Served, Combined, Issued}
+use Rattle.ultra_msg.specs.declared.Event.{Event, TheVariants.{Delivered, Served, Combined, Issued}}
 use Rattle.ultra_model.specs.Balance.{weight, count}
 use Rattle.ultra_model.proofs.Counting.{is_reference}
 use Rattle.ultra_serial_law.specs.Tree.{Tree, Kept, is_under, tree_of, without, with_pair, trees_after}
 use Rattle.ultra_serial_law.specs.Explicable.{IsAbsorbable, AreAbsorbable, ServeTrees, served_tree}
-use Rattle.ultra_serial_law.proofs.Tidy.{is_that, that_is}
-use Rattle.ultra_serial_law.proofs.Explained.{IsIn}
+use Rattle.ultra_serial_law.proofs.{Tidy.{is_that, that_is}, Explained.IsIn}
 use Rattle.ultra_serial_law.proofs.Mentions.{mention, mentions, in_mentions, trees_noted, unmentioned, without_other}
 
 pub trees_noted-append : (es fs : List Event) (ks : List Kept) → trees_noted (es ++ fs) ks ≡ trees_noted fs (trees_noted es ks)

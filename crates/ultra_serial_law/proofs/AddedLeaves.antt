@@ -1,13 +1,8 @@
 -- what an event adds to a serial list are the leaves of the tree that it serves
 use Rattle.std.proofs.Common.{◌≡◌, ℕ, List, [], ◌∷◌, refl, ◌∙◌, subst}
-use Rattle.ultra_msg.specs.declared.Event.{Event}
-use Rattle.ultra_msg.specs.declared.Event.TheVariants.{Delivered, Served, Combined, Issued}
-use Rattle.ultra_serial_law.specs.Tree.{Kept, trees_after, leaves_of, served_leaves}
-use Rattle.ultra_serial_law.specs.Legal.{Entry, Cells, cells_after, replayed}
-use Rattle.ultra_serial_law.specs.SerialList.{History, after_event, noted}
-use Rattle.ultra_serial_law.specs.Explicable.{served_tree, AreLeavesAdded}
-use Rattle.ultra_serial_law.proofs.Lists.{requests_of}
-use Rattle.ultra_serial_law.proofs.Replays.{replayed-append}
+use Rattle.ultra_msg.specs.declared.Event.{Event, TheVariants.{Delivered, Served, Combined, Issued}}
+use Rattle.ultra_serial_law.specs.{Tree.{Kept, trees_after, leaves_of, served_leaves}, Legal.{Entry, Cells, cells_after, replayed}, SerialList.{History, after_event, noted}, Explicable.{served_tree, AreLeavesAdded}}
+use Rattle.ultra_serial_law.proofs.{Lists.requests_of, Replays.replayed-append}
 
 served_leaves_are : (ks : List Kept) (e : Event) → served_leaves ks e ≡ leaves_of (served_tree ks e)
 served_leaves_are ks (Delivered r) = refl

@@ -2,16 +2,10 @@
 use Rattle.std.proofs.Common.{◌≡◌, ℕ, ◌<◌, List, [], ◌∷◌, ◌++◌, refl, sym, ◌∙◌, ap, append_assoc}
 use Rattle.std.specs.List.{AllByRecursion}
 use Rattle.std.proofs.lemmas.List.{append-nil}
-use Rattle.ultra_msg.specs.declared.Event.{Event}
-use Rattle.ultra_msg.specs.declared.Event.TheVariants.{Delivered, Served, Combined, Issued}
+use Rattle.ultra_msg.specs.declared.Event.{Event, TheVariants.{Delivered, Served, Combined, Issued}}
 use Rattle.ultra_model.proofs.Each.{each-append, each-weaker, each-left}
-use Rattle.ultra_serial_law.specs.Log.{LoggedIssue, LoggedAnswer}
-use Rattle.ultra_serial_law.specs.Legal.{Entry as Done, answered_by}
-use Rattle.ultra_serial_law.specs.SerialList.{History, noted, after_event}
-use Rattle.ultra_serial_law.proofs.Forest.{leaf_of}
-use Rattle.ultra_serial_law.proofs.Explained.{IsIn}
-use Rattle.ultra_serial_law.proofs.ProcessorForest.{issues_noted}
-use Rattle.ultra_serial_law.proofs.Issued.{NewIssue, each_issue}
+use Rattle.ultra_serial_law.specs.{Log.{LoggedIssue, LoggedAnswer}, Legal.{Entry as Done, answered_by}, SerialList.{History, noted, after_event}}
+use Rattle.ultra_serial_law.proofs.{Forest.leaf_of, Explained.IsIn, ProcessorForest.issues_noted, Issued.{NewIssue, each_issue}}
 
 -- an issue with the name of this entry was made before a cycle
 abbrev pub IsBefore : ℕ → Done → LoggedIssue → Type 0

@@ -1,15 +1,11 @@
 -- lists that are not legal for a worked run: one in the wrong order, and one from which an answered request is left out
 use Rattle.std.proofs.Common.{◌≡◌, ℕ, zero, suc, List, [], ◌∷◌, refl, ap, arith}
 use Rattle.std.specs.Prelude.{Some, slice_get}
-use Rattle.ultra_msg.specs.declared.Op.TheVariants.{Faa}
-use Rattle.ultra_msg.specs.declared.Reply.{Reply}
-use Rattle.ultra_msg.specs.declared.Reply.TheVariants.{Value, Ack}
-use Rattle.ultra_model.specs.Places.{places}
-use Rattle.ultra_model.specs.Machine.{start}
+use Rattle.ultra_msg.specs.declared.{Op.TheVariants.Faa, Reply.{Reply, TheVariants.{Value, Ack}}}
+use Rattle.ultra_model.specs.{Places.places, Machine.start}
 use Rattle.ultra_model.specs.Phases.{after, cycle, reply_phase, memory_phase, request_phase, processor_phase, arriving_reply, arriving_request}
 use Rattle.ultra_model.proofs.Pairs.{one_stage, add_one}
-use Rattle.ultra_serial_law.specs.Legal.{Entry, Cells, IsLegal}
-use Rattle.ultra_serial_law.specs.SerialList.{history}
+use Rattle.ultra_serial_law.specs.{Legal.{Entry, Cells, IsLegal}, SerialList.history}
 use Rattle.ultra_serial_law.proofs.Rows.{done}
 
 abbrev zero_cells : Cells

@@ -1,26 +1,15 @@
 -- each processing element has a leaf in the tree of the hot request
 use Rattle.std.proofs.Common.{◌≡◌, ℕ, zero, suc, ◌+◌, ◌/◌, ◌%◌, ◌<◌, ◌≤◌, ◌⊎◌, inl, inr, List, [], Bool, true, false, arith, sym, subst, ◌∙◌, ap, map, ⊎_elim}
 use Rattle.std.specs.Prelude.{◌==◌}
-use Rattle.std.proofs.lemmas.List.{map-append}
-use Rattle.std.proofs.lemmas.List.Elements.{Contains-append_left, Contains-append_right, Contains-push}
+use Rattle.std.proofs.lemmas.List.{map-append, Elements.{Contains-append_left, Contains-append_right, Contains-push}}
 use Rattle.ultra_msg.specs.declared.Request.{Request}
 use Rattle.ultra_route.specs.Route.{unshuffled, line_of, entry_of}
-use Rattle.ultra_model.specs.Machine.{Settings, Machine, size}
-use Rattle.ultra_model.specs.Ranges.{AreInRange}
-use Rattle.ultra_model.specs.Routed.{module_of}
+use Rattle.ultra_model.specs.{Machine.{Settings, Machine, size}, Ranges.AreInRange, Routed.module_of}
 use Rattle.ultra_model.proofs.Routes.{route, route_ends}
-use Rattle.ultra_serial_law.specs.declared.records.NamedRequest.{NamedRequest}
-use Rattle.ultra_serial_law.specs.Tree.{Tree, leaf, pair, leaves}
-use Rattle.ultra_serial_law.specs.declared.records.LoggedIssue.{LoggedIssue}
-use Rattle.ultra_serial_law.proofs.Forest.{position_of, built, built_leaf, leaf_of}
+use Rattle.ultra_serial_law.specs.{declared.records.{NamedRequest.NamedRequest, LoggedIssue.LoggedIssue}, Tree.{Tree, leaf, pair, leaves}, HotSpot.IsOf}
+use Rattle.ultra_serial_law.proofs.{Forest.{position_of, built, built_leaf, leaf_of}, Grown.{old_first, grown_is}}
 use Rattle.ultra_hot_spot.specs.HotCell.{old_of, new_of}
-use Rattle.ultra_hot_spot.proofs.Meeting.{leads_at, front_first}
-use Rattle.ultra_hot_spot.proofs.Fronts.{front_is_old}
-use Rattle.ultra_hot_spot.proofs.Onward.{leads_first}
-use Rattle.ultra_hot_spot.proofs.Returning.{one_of_ports}
-use Rattle.ultra_hot_spot.proofs.Stages.{is_on, IsAsked, fronts, HasLeft}
-use Rattle.ultra_serial_law.specs.HotSpot.{IsOf}
-use Rattle.ultra_serial_law.proofs.Grown.{old_first, grown_is}
+use Rattle.ultra_hot_spot.proofs.{Meeting.{leads_at, front_first}, Fronts.front_is_old, Onward.leads_first, Returning.one_of_ports, Stages.{is_on, IsAsked, fronts, HasLeft}}
 
 in_pair : (s x : ℕ) (old new : Tree) (f : Bool) (p : ℕ) → IsOf old p ⊎ IsOf new p → IsOf (pair s x old new f) p
 in_pair s x old new true p h =

@@ -1,21 +1,13 @@
 -- what the messages of a machine say, by their trees. A request sends what its tree sends, a reply
 -- answers the leaves of its tree, a record gives as its pair does
 use Rattle.std.proofs.Common.{◌≡◌, ℕ, suc, ◌<◌, ◌≤◌, List, [], ◌∷◌, ◌++◌, Bool, true, false, arith, ◌⊎◌, inl, inr}
-use Rattle.std.specs.Prelude.{Some, IfSome}
-use Rattle.std.specs.List.{AllByRecursion}
-use Rattle.ultra_msg.specs.declared.Reply.{Reply}
-use Rattle.ultra_msg.specs.declared.Request.{Request}
-use Rattle.ultra_msg.specs.declared.ReplyMessage.{ReplyMessage}
-use Rattle.ultra_msg.specs.Pair.{pair_of}
-use Rattle.ultra_switch.specs.declared.QueueEntry.{QueueEntry}
-use Rattle.ultra_switch.specs.declared.WaitRecord.{WaitRecord}
+use Rattle.std.specs.{Prelude.{Some, IfSome}, List.AllByRecursion}
+use Rattle.ultra_msg.specs.{declared.{Reply.Reply, Request.Request, ReplyMessage.ReplyMessage}, Pair.pair_of}
+use Rattle.ultra_switch.specs.declared.{QueueEntry.QueueEntry, WaitRecord.WaitRecord}
 use Rattle.ultra_mem.specs.declared.Placed.{Placed}
 use Rattle.ultra_model.specs.Machine.{Settings, Machine, size, lane_at, replies_at, module_at, element_at}
-use Rattle.ultra_serial_law.specs.Tree.{Tree, leaf, pair, Kept, tree_of}
-use Rattle.ultra_serial_law.specs.Log.{LoggedIssue}
-use Rattle.ultra_serial_law.specs.Legal.{Entry as Done, answered_by}
-use Rattle.ultra_serial_law.proofs.Series.{sent, to_old, to_new}
-use Rattle.ultra_serial_law.proofs.Forest.{built}
+use Rattle.ultra_serial_law.specs.{Tree.{Tree, leaf, pair, Kept, tree_of}, Log.LoggedIssue, Legal.{Entry as Done, answered_by}}
+use Rattle.ultra_serial_law.proofs.{Series.{sent, to_old, to_new}, Forest.built}
 
 -- x is in the list
 abbrev pub IsIn : {X : Type 0} → X → List X → Type 0

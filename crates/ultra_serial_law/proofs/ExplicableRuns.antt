@@ -1,24 +1,15 @@
 -- the law of the explainer: in every run the trees so far can absorb each event
 use Rattle.std.proofs.Common.{◌≡◌, ℕ, zero, suc, ◌+◌, ◌≤◌, List, [], ◌∷◌, ◌++◌, Bool, refl, arith, sym, ◌∙◌, ap, subst}
-use Rattle.std.specs.Prelude.{Option, None, IfSome}
-use Rattle.std.specs.List.{AllByRecursion}
-use Rattle.ultra_msg.specs.declared.Event.{Event}
-use Rattle.ultra_msg.specs.declared.Event.TheVariants.{Delivered, Served, Combined, Issued}
+use Rattle.std.specs.{Prelude.{Option, None, IfSome}, List.AllByRecursion}
+use Rattle.ultra_msg.specs.declared.Event.{Event, TheVariants.{Delivered, Served, Combined, Issued}}
 use Rattle.ultra_isa.specs.declared.Instr.{Instr}
-use Rattle.ultra_model.specs.Machine.{Settings, Machine, size}
+use Rattle.ultra_model.specs.{Machine.{Settings, Machine, size}, Ranges.AreInRange}
 use Rattle.ultra_model.specs.Phases.{reply_phase, memory_phase, request_phase, processor_phase, cycle, after}
-use Rattle.ultra_model.specs.Ranges.{AreInRange}
-use Rattle.ultra_serial_law.specs.Tree.{Tree, Kept, trees_after}
-use Rattle.ultra_serial_law.specs.Legal.{given, replayed}
-use Rattle.ultra_serial_law.specs.SerialList.{History, noted, history, serial_list}
+use Rattle.ultra_serial_law.specs.{Tree.{Tree, Kept, trees_after}, Legal.{given, replayed}, SerialList.{History, noted, history, serial_list}}
 use Rattle.ultra_serial_law.specs.Explicable.{served_tree, AreAbsorbable, ServeTrees, AreLeavesAdded, IsOfMachine, AreExplicable, ExplainingLaw}
-use Rattle.ultra_serial_law.proofs.AddedLeaves.{leaves_added}
-use Rattle.ultra_serial_law.proofs.Mentions.{sum_of, trees_noted, noted_trees}
-use Rattle.ultra_serial_law.proofs.Issued.{each_issued}
+use Rattle.ultra_serial_law.proofs.{AddedLeaves.leaves_added, Mentions.{sum_of, trees_noted, noted_trees}, Issued.each_issued, Fitting.{servings_fit, meetings_fit}, NewRequests.issues_absorbable}
 use Rattle.ultra_serial_law.proofs.Absorbing.{kept_passing, lost, brought, IsFit, fit_absorbable, fit_served, absorbable-append, serve_trees-append, trees_noted-append}
-use Rattle.ultra_serial_law.proofs.Fitting.{servings_fit, meetings_fit}
 use Rattle.ultra_serial_law.proofs.KeptTrees.{all_brought, events_kept, requests_of, requests_replied, requests_served, requests_combined, requests_issued}
-use Rattle.ultra_serial_law.proofs.NewRequests.{issues_absorbable}
 use Rattle.ultra_serial_law.proofs.Law.{IsSerial, serial_after, deliveries, any_delivery, servings, meetings, issues_of, events_of, noted_cycle, history_next, serial-reply_phase, serial-memory_phase, serial-request_phase}
 
 sum_zero : (f : Event → ℕ) (es : List Event) → AllByRecursion (λ e. f e ≡ 0) es → sum_of f es ≡ 0

@@ -3,38 +3,17 @@ use Rattle.std.proofs.Common.{◌≡◌, ℕ, ◌<◌, ◌≤◌, List, [], ◌�
 use Rattle.std.specs.Prelude.{Option, Some, None, IsSome, IfSome, ◌==◌, not}
 use Rattle.std.specs.List.{AllByRecursion}
 use Rattle.std.proofs.lemmas.Bool.{eqb-true}
-use Rattle.ultra_msg.specs.declared.Request.{Request}
-use Rattle.ultra_msg.specs.declared.ReplyMessage.{ReplyMessage}
-use Rattle.ultra_msg.specs.declared.Event.{Event}
-use Rattle.ultra_msg.specs.declared.Event.TheVariants.{Delivered, Served, Combined, Issued}
+use Rattle.ultra_msg.specs.declared.{Request.Request, ReplyMessage.ReplyMessage, Event.{Event, TheVariants.{Delivered, Served, Combined, Issued}}}
 use Rattle.ultra_switch.specs.declared.QueueEntry.{QueueEntry}
 use Rattle.ultra_switch.specs.Arrive.{Lane, Combination, entry, combine_within, after_arrival, arrive}
-use Rattle.ultra_mem.specs.declared.Placed.{Placed}
-use Rattle.ultra_mem.specs.Serve.{to_serve, act_of, served}
+use Rattle.ultra_mem.specs.{declared.Placed.Placed, Serve.{to_serve, act_of, served}}
 use Rattle.ultra_isa.specs.declared.Instr.{Instr}
-use Rattle.ultra_model.specs.Places.{places, table, joined}
-use Rattle.ultra_model.specs.Machine.{Settings, Machine, size, lane_at, module_at}
+use Rattle.ultra_model.specs.{Places.{places, table, joined}, Machine.{Settings, Machine, size, lane_at, module_at}, Ranges.AreInRange, Routed.{IsByLine, IsEntryAt, IsPlacedAt}}
 use Rattle.ultra_model.specs.Phases.{serving, combination, combinations, lane_after_leaving, leaving_request, arrivals}
-use Rattle.ultra_model.specs.Ranges.{AreInRange}
-use Rattle.ultra_model.specs.Routed.{IsByLine, IsEntryAt, IsPlacedAt}
 use Rattle.ultra_model.proofs.Each.{each-append, each-weaker, each-places, each-present, each-joined, each-after_leaving}
-use Rattle.ultra_model.proofs.Counting.{is_reference, both_true}
-use Rattle.ultra_model.proofs.Routes.{arrivals_well}
-use Rattle.ultra_serial_law.specs.Tree.{Tree, tree_of}
-use Rattle.ultra_serial_law.specs.Legal.{given}
-use Rattle.ultra_serial_law.specs.SerialList.{History}
-use Rattle.ultra_serial_law.specs.Explicable.{IsOfMachine}
-use Rattle.ultra_serial_law.proofs.Forest.{built}
-use Rattle.ultra_serial_law.proofs.Standing.{once}
-use Rattle.ultra_serial_law.proofs.Explained.{bound, IsKept, IsKeptAt}
-use Rattle.ultra_serial_law.proofs.ReplyForest.{each_and}
-use Rattle.ultra_serial_law.proofs.Mentions.{mentions}
-use Rattle.ultra_serial_law.proofs.LaneForest.{Combines, within_each}
-use Rattle.ultra_serial_law.proofs.MemoryForest.{all_taken, inputs_within}
-use Rattle.ultra_serial_law.proofs.RequestForest.{all_parts, lanes_once, arrivals_kept}
-use Rattle.ultra_serial_law.proofs.Absorbing.{IsReady, IsFit}
-use Rattle.ultra_serial_law.proofs.SmallTrees.{built_of_machine}
-use Rattle.ultra_serial_law.proofs.Law.{IsSerial, list_of, servings, meetings}
+use Rattle.ultra_model.proofs.{Counting.{is_reference, both_true}, Routes.arrivals_well}
+use Rattle.ultra_serial_law.specs.{Tree.{Tree, tree_of}, Legal.given, SerialList.History, Explicable.IsOfMachine}
+use Rattle.ultra_serial_law.proofs.{Forest.built, Standing.once, Explained.{bound, IsKept, IsKeptAt}, ReplyForest.each_and, Mentions.mentions, LaneForest.{Combines, within_each}, MemoryForest.{all_taken, inputs_within}, RequestForest.{all_parts, lanes_once, arrivals_kept}, Absorbing.{IsReady, IsFit}, SmallTrees.built_of_machine, Law.{IsSerial, list_of, servings, meetings}}
 
 -- ---- those that combine in a lane
 module _ (Q : ℕ → ℕ → Type 0) where

@@ -1,21 +1,14 @@
 -- the tree of a message, read off the wait buffers: at each stage below its place the record of its reference, if there is one, makes a pair
 use Rattle.std.proofs.Common.{◌≡◌, ℕ, zero, suc, ◌+◌, ◌<◌, ◌≤◌, List, [], ◌∷◌, Bool, true, false, refl, arith, sym, ◌∙◌, ap, subst, ⊎_elim}
-use Rattle.std.specs.Prelude.{Option, Some, None}
-use Rattle.std.specs.List.{AllByRecursion}
+use Rattle.std.specs.{Prelude.{Option, Some, None}, List.AllByRecursion}
 use Rattle.std.proofs.lemmas.Bool.{cases_lt}
-use Rattle.ultra_msg.specs.declared.Op.{Op}
-use Rattle.ultra_msg.specs.declared.Op.TheVariants.{Load}
-use Rattle.ultra_msg.specs.Pair.{pair_of}
+use Rattle.ultra_msg.specs.{declared.Op.{Op, TheVariants.Load}, Pair.pair_of}
 use Rattle.ultra_route.specs.Route.{line_of}
 use Rattle.ultra_switch.specs.declared.WaitRecord.{WaitRecord}
-use Rattle.ultra_model.specs.Machine.{Settings, Machine, size, lane_at}
-use Rattle.ultra_model.specs.Routed.{module_of}
-use Rattle.ultra_model.specs.Balance.{weight, count, record_passes}
+use Rattle.ultra_model.specs.{Machine.{Settings, Machine, size, lane_at}, Routed.module_of, Balance.{weight, count, record_passes}}
 use Rattle.ultra_model.proofs.Counting.{is_reference}
-use Rattle.ultra_serial_law.specs.Tree.{Tree, leaf, pair, NamedRequest}
-use Rattle.ultra_serial_law.specs.Log.{LoggedIssue, is_issue_for, latest_number}
-use Rattle.ultra_serial_law.proofs.Series.{sent, IsProper}
-use Rattle.ultra_serial_law.proofs.Tidy.{old_records, is_that, that_is}
+use Rattle.ultra_serial_law.specs.{Tree.{Tree, leaf, pair, NamedRequest}, Log.{LoggedIssue, is_issue_for, latest_number}}
+use Rattle.ultra_serial_law.proofs.{Series.{sent, IsProper}, Tidy.{old_records, is_that, that_is}}
 
 -- ---- the record of a reference, and its latest issue
 abbrev pub find_record : ℕ → ℕ → List WaitRecord → Option WaitRecord

@@ -1,25 +1,17 @@
 -- the tree of the hot request: a pair at each stage, of two trees of the same height
 use Rattle.std.proofs.Common.{◌≡◌, ℕ, zero, suc, ◌+◌, ◌^◌, ◌<◌, ◌≤◌, List, [], ◌∷◌, ◌++◌, Bool, true, false, refl, arith, sym, subst, ◌∙◌, ap, length}
 use Rattle.std.specs.Prelude.{Option, Some, max}
-use Rattle.std.proofs.lemmas.List.{length-append}
-use Rattle.std.proofs.Math.Nat.{pow-suc}
-use Rattle.ultra_msg.specs.declared.Request.{Request}
-use Rattle.ultra_msg.specs.Pair.{pair_of}
+use Rattle.std.proofs.{lemmas.List.length-append, Math.Nat.pow-suc}
+use Rattle.ultra_msg.specs.{declared.Request.Request, Pair.pair_of}
 use Rattle.ultra_route.specs.Route.{unshuffled}
 use Rattle.ultra_switch.specs.declared.WaitRecord.{WaitRecord}
-use Rattle.ultra_model.specs.Machine.{Settings, Machine, size, lane_at}
-use Rattle.ultra_model.specs.Ranges.{AreInRange}
-use Rattle.ultra_model.specs.Routed.{module_of}
-use Rattle.ultra_model.proofs.Counting.{is_reference}
-use Rattle.ultra_model.proofs.Neighbours.{itself}
-use Rattle.ultra_serial_law.specs.Tree.{Tree, pair, leaves, height}
-use Rattle.ultra_serial_law.specs.declared.records.LoggedIssue.{LoggedIssue}
+use Rattle.ultra_model.specs.{Machine.{Settings, Machine, size, lane_at}, Ranges.AreInRange, Routed.module_of}
+use Rattle.ultra_model.proofs.{Counting.is_reference, Neighbours.itself}
+use Rattle.ultra_serial_law.specs.{Tree.{Tree, pair, leaves, height}, declared.records.LoggedIssue.LoggedIssue}
 use Rattle.ultra_serial_law.proofs.Series.{sent}
 use Rattle.ultra_serial_law.proofs.Forest.{find_record, record_at, position_of, built, built_leaf, built_next, grown}
 use Rattle.ultra_hot_spot.specs.HotCell.{first_port, second_port, old_of, new_of, record_of, left_at}
-use Rattle.ultra_hot_spot.proofs.Meeting.{first_is_port, second_is_port, port_on}
-use Rattle.ultra_hot_spot.proofs.Fronts.{front_cell, old_small, new_small, old_goes, front_is_old}
-use Rattle.ultra_hot_spot.proofs.Stages.{is_on, IsAsked, fronts, HasLeft}
+use Rattle.ultra_hot_spot.proofs.{Meeting.{first_is_port, second_is_port, port_on}, Fronts.{front_cell, old_small, new_small, old_goes, front_is_old}, Stages.{is_on, IsAsked, fronts, HasLeft}}
 
 -- as high as s pairs, with all leaves that it can have
 pub record IsFull (s : ℕ) (t : Tree) : Type 0 where

@@ -1,21 +1,15 @@
 -- worked hot spots: what the law says, of small machines by computation. In the last of them the wait buffers have no place, and combining does not happen
 use Rattle.std.specs.Prelude.{◌≡◌, ℕ, List, [], ◌∷◌, true, refl, map}
 use Rattle.std.specs.List.{filter, range_with_len}
-use Rattle.ultra_msg.specs.declared.Request.{Request}
-use Rattle.ultra_msg.specs.declared.Op.TheVariants.{Faa}
-use Rattle.ultra_msg.specs.declared.Reply.TheVariants.{Value}
+use Rattle.ultra_msg.specs.declared.{Request.Request, Op.TheVariants.Faa, Reply.TheVariants.Value}
 use Rattle.ultra_isa.specs.declared.Instr.{Instr}
 use Rattle.ultra_isa.specs.declared.Instr.TheVariants as instr
-use Rattle.ultra_model.specs.Places.{places}
-use Rattle.ultra_model.specs.Machine.{Settings, start}
+use Rattle.ultra_model.specs.{Places.places, Machine.{Settings, start}}
 use Rattle.ultra_model.specs.Phases.{after, cycle, reply_phase, memory_phase, request_phase, processor_phase, arriving_reply, arriving_request}
 use Rattle.ultra_model.proofs.Runs.{is_delivery, request, got, pending, holdings, settings, history as happened}
-use Rattle.ultra_model.proofs.Pairs.{one_stage, add_one}
-use Rattle.ultra_model.proofs.Levels.{two_stages, add_number}
-use Rattle.ultra_serial_law.specs.Tree.{Tree, leaf, pair}
-use Rattle.ultra_serial_law.specs.SerialList.{history}
+use Rattle.ultra_model.proofs.{Pairs.{one_stage, add_one}, Levels.{two_stages, add_number}}
+use Rattle.ultra_serial_law.specs.{Tree.{Tree, leaf, pair}, SerialList.history, HotSpot.trees_taken}
 use Rattle.ultra_hot_spot.specs.AllAtOnce.{acts_on, later_events}
-use Rattle.ultra_serial_law.specs.HotSpot.{trees_taken}
 
 -- the requests for cell a that are served in each of k cycles from cycle n on
 abbrev acts_by_cycle : Settings → List Instr → ℕ → ℕ → ℕ → List (List Request)

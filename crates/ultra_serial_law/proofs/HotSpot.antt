@@ -1,35 +1,19 @@
 -- many references to one cell are served by one act, whose tree has them all
 use Rattle.std.proofs.Common.{◌≡◌, ℕ, suc, ◌+◌, ◌≤◌, List, [], ◌∷◌, ◌++◌, Bool, true, false, refl, arith, sym, subst, ◌∙◌, ap}
-use Rattle.std.specs.Prelude.{Option, Some, None, IfSome}
-use Rattle.std.specs.List.{AllByRecursion}
+use Rattle.std.specs.{Prelude.{Option, Some, None, IfSome}, List.AllByRecursion}
 use Rattle.std.proofs.lemmas.List.{append-nil}
-use Rattle.ultra_msg.specs.declared.Request.{Request}
-use Rattle.ultra_msg.specs.declared.Event.{Event}
-use Rattle.ultra_mem.specs.declared.Placed.{Placed}
-use Rattle.ultra_mem.specs.Serve.{served}
+use Rattle.ultra_msg.specs.declared.{Request.Request, Event.Event}
+use Rattle.ultra_mem.specs.{declared.Placed.Placed, Serve.served}
 use Rattle.ultra_isa.specs.declared.Instr.{Instr}
-use Rattle.ultra_model.specs.Machine.{Settings, Machine, size, module_at}
-use Rattle.ultra_model.specs.Phases.{delivered, reply_phase, cycle, after}
-use Rattle.ultra_model.specs.Ranges.{AreInRange}
-use Rattle.ultra_model.specs.Routed.{module_of}
-use Rattle.ultra_model.proofs.Each.{each-append}
-use Rattle.ultra_model.proofs.Neighbours.{itself}
-use Rattle.ultra_model.proofs.Routes.{module_small}
+use Rattle.ultra_model.specs.{Machine.{Settings, Machine, size, module_at}, Phases.{delivered, reply_phase, cycle, after}, Ranges.AreInRange, Routed.module_of}
+use Rattle.ultra_model.proofs.{Each.each-append, Neighbours.itself, Routes.module_small}
 use Rattle.ultra_hot_spot.specs.AllAtOnce.{acts_on, AreAllAt, later_events}
-use Rattle.ultra_hot_spot.proofs.Fronts.{front_cell}
-use Rattle.ultra_hot_spot.proofs.Module.{leads_last}
+use Rattle.ultra_hot_spot.proofs.{Fronts.front_cell, Module.leads_last, Stages.{is_on, placed}}
 use Rattle.ultra_hot_spot.proofs.Acts.{deliveries, servings, meetings, issues, events_are, acts-append, acts_of_cycle, no_deliveries, no_meetings, no_issues}
 use Rattle.ultra_hot_spot.proofs.Law.{asked, each, inside_at, the_request, one_from, served_at_once, events_at}
-use Rattle.ultra_hot_spot.proofs.Stages.{is_on, placed}
-use Rattle.ultra_serial_law.specs.Tree.{Tree, tree_of}
-use Rattle.ultra_serial_law.specs.SerialList.{History, history}
-use Rattle.ultra_serial_law.proofs.Forest.{built}
-use Rattle.ultra_serial_law.proofs.Explained.{IsKept}
-use Rattle.ultra_serial_law.proofs.Law.{serial_after}
-use Rattle.ultra_serial_law.specs.HotSpot.{trees_taken, IsHotSpot, HotSpotLaw}
+use Rattle.ultra_serial_law.specs.{Tree.{Tree, tree_of}, SerialList.{History, history}, HotSpot.{trees_taken, IsHotSpot, HotSpotLaw}}
+use Rattle.ultra_serial_law.proofs.{Forest.built, Explained.IsKept, Law.serial_after, Everyone.everyone, Grown.{IsFull, hot_tree_is_full}}
 use Rattle.ultra_serial_law.proofs.Taken.{none_taken, taken-append, kept_after, one_taken, IsEarly, early_deliveries, early_servings}
-use Rattle.ultra_serial_law.proofs.Everyone.{everyone}
-use Rattle.ultra_serial_law.proofs.Grown.{IsFull, hot_tree_is_full}
 
 module _ (c : Settings) (range : AreInRange c) (some_waits : 1 ≤ c.wait_places) (program : List Instr) (n a : ℕ) (w : AreAllAt c a (after c program n)) where
   abbrev home : ℕ

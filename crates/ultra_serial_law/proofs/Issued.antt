@@ -1,31 +1,16 @@
 -- names, through all phases: an issue has a number that its processing element hasn't given yet
 use Rattle.std.proofs.Common.{◌≡◌, ◌≢◌, ℕ, suc, ◌+◌, ◌<◌, ◌≤◌, List, [], ◌∷◌, Bool, false, refl, arith, sym, ◌∙◌, ap, ◌⊎◌, ⊎_elim, inl, inr}
-use Rattle.std.specs.Prelude.{Option, Some, None, IfSome}
-use Rattle.std.specs.List.{AllByRecursion}
-use Rattle.std.proofs.lemmas.Bool.{cases_lt, cases_Bool}
-use Rattle.std.proofs.lemmas.List.{append-nil}
-use Rattle.ultra_msg.specs.declared.Request.{Request}
-use Rattle.ultra_msg.specs.declared.Event.{Event}
-use Rattle.ultra_msg.specs.declared.Event.TheVariants.{Delivered, Served, Combined, Issued}
+use Rattle.std.specs.{Prelude.{Option, Some, None, IfSome}, List.AllByRecursion}
+use Rattle.std.proofs.lemmas.{Bool.{cases_lt, cases_Bool}, List.append-nil}
+use Rattle.ultra_msg.specs.declared.{Request.Request, Event.{Event, TheVariants.{Delivered, Served, Combined, Issued}}}
 use Rattle.ultra_pni.specs.Interface.{Interface}
 use Rattle.ultra_isa.specs.declared.Instr.{Instr}
 use Rattle.ultra_isa.proofs.Steps.{SendsInto}
-use Rattle.ultra_model.specs.Places.{places, present}
+use Rattle.ultra_model.specs.{Places.{places, present}, Phases.{issue_event, issues_after as count_after, step_at, processor_phase}, Balance.{weight, count, total}}
 use Rattle.ultra_model.specs.Machine.{Settings, Machine, Element, size, site, element_at}
-use Rattle.ultra_model.specs.Phases.{issue_event, issues_after as count_after, step_at, processor_phase}
-use Rattle.ultra_model.specs.Balance.{weight, count, total}
-use Rattle.ultra_model.proofs.Each.{each-append, each-weaker, each-places, each-present}
-use Rattle.ultra_model.proofs.Sums.{total_only, total_zero}
-use Rattle.ultra_model.proofs.Counting.{count-none, is_reference}
-use Rattle.ultra_model.proofs.Balanced.{sends}
-use Rattle.ultra_model.proofs.AtPlaces.{element-processor_phase}
-use Rattle.ultra_serial_law.specs.Tree.{NamedRequest, leaves, Kept, trees_after}
-use Rattle.ultra_serial_law.specs.Log.{LoggedIssue}
-use Rattle.ultra_serial_law.specs.SerialList.{History, noted, after_event}
-use Rattle.ultra_serial_law.proofs.Tidy.{is_that}
-use Rattle.ultra_serial_law.proofs.Mentions.{sum_of, sum-places, trees_noted, noted_trees}
-use Rattle.ultra_serial_law.proofs.RequestForest.{in_holds}
-use Rattle.ultra_serial_law.proofs.ProcessorForest.{issues_after, issues_noted, noted_issues}
+use Rattle.ultra_model.proofs.{Each.{each-append, each-weaker, each-places, each-present}, Sums.{total_only, total_zero}, Counting.{count-none, is_reference}, Balanced.sends, AtPlaces.element-processor_phase}
+use Rattle.ultra_serial_law.specs.{Tree.{NamedRequest, leaves, Kept, trees_after}, Log.LoggedIssue, SerialList.{History, noted, after_event}}
+use Rattle.ultra_serial_law.proofs.{Tidy.is_that, Mentions.{sum_of, sum-places, trees_noted, noted_trees}, RequestForest.in_holds, ProcessorForest.{issues_after, issues_noted, noted_issues}}
 use Rattle.ultra_serial_law.proofs.Named.{tree_leaves, leaves_in, IsNoIssue, noted_leaves, IsLogged, AreLogged, TreesLogged, IsLoggedAll, noted_logged}
 
 -- a leaf with this name

@@ -3,37 +3,22 @@ use Rattle.std.proofs.Common.{◌≡◌, ℕ, ◌+◌, ◌≤◌, List, [], ◌�
 use Rattle.std.specs.Prelude.{Option, Some, None, IfSome, ◌==◌, not}
 use Rattle.std.specs.List.{AllByRecursion}
 use Rattle.std.proofs.lemmas.Bool.{eqb-true}
-use Rattle.ultra_msg.specs.declared.Request.{Request}
-use Rattle.ultra_msg.specs.declared.ReplyMessage.{ReplyMessage}
-use Rattle.ultra_msg.specs.declared.Event.{Event}
+use Rattle.ultra_msg.specs.declared.{Request.Request, ReplyMessage.ReplyMessage, Event.Event}
 use Rattle.ultra_switch.specs.declared.QueueEntry.{QueueEntry}
 use Rattle.ultra_switch.specs.Arrive.{Lane, Combination, wait_record, combine_within, after_arrival, arrive}
-use Rattle.ultra_mem.specs.declared.Placed.{Placed}
-use Rattle.ultra_mem.specs.declared.Served.{Served as Act}
-use Rattle.ultra_mem.specs.Serve.{ModuleState, served}
+use Rattle.ultra_mem.specs.{declared.{Placed.Placed, Served.Served as Act}, Serve.{ModuleState, served}}
 use Rattle.ultra_pni.specs.Interface.{Interface}
 use Rattle.ultra_isa.specs.declared.Instr.{Instr}
 use Rattle.ultra_isa.proofs.Steps.{SendsInto}
-use Rattle.ultra_model.specs.Places.{places, present}
+use Rattle.ultra_model.specs.{Places.{places, present}, Ranges.AreInRange}
 use Rattle.ultra_model.specs.Machine.{Settings, Machine, Element, size, site, last_stage, lane_at, replies_at, module_at, element_at, start}
 use Rattle.ultra_model.specs.Phases.{arrive_all, deliver, delivered, without_reply, with_request, arriving_reply, entering, serving, combination, combinations, lane_after_leaving, arrivals, issue_event, step_at, reply_phase, memory_phase, request_phase, processor_phase}
-use Rattle.ultra_model.specs.Ranges.{AreInRange}
 use Rattle.ultra_model.specs.Balance.{weight, count, count_option, total, passes, reply_passes, entry_passes, record_passes, replies_on_way, pending_on_way, on_way}
-use Rattle.ultra_model.proofs.Each.{each-places, each-present}
-use Rattle.ultra_model.proofs.Sums.{total_same, total_plus, total_zero, table_same, table_plus}
-use Rattle.ultra_model.proofs.Counting.{count-append, both_true}
-use Rattle.ultra_model.proofs.RequestBalance.{on_way-request_phase}
-use Rattle.ultra_model.proofs.Balanced.{sends}
+use Rattle.ultra_model.proofs.{Each.{each-places, each-present}, Sums.{total_same, total_plus, total_zero, table_same, table_plus}, Counting.{count-append, both_true}, RequestBalance.on_way-request_phase, Balanced.sends}
 use Rattle.ultra_model.proofs.AtPlaces.{lane-start, memory_module-start, element-start, lane-reply_phase, memory_module-reply_phase, element-reply_phase, lane-request_phase, memory_module-request_phase, element-processor_phase}
-use Rattle.ultra_serial_law.specs.Tree.{Kept}
-use Rattle.ultra_serial_law.specs.Legal.{given}
-use Rattle.ultra_serial_law.specs.SerialList.{History}
-use Rattle.ultra_serial_law.specs.Explicable.{AreAbsorbable}
+use Rattle.ultra_serial_law.specs.{Tree.Kept, Legal.given, SerialList.History, Explicable.AreAbsorbable}
 use Rattle.ultra_serial_law.proofs.Mentions.{mention, mentions, sum_of, sum-places, sum-append, sum-table, trees_noted}
-use Rattle.ultra_serial_law.proofs.LaneForest.{Combines, within_each}
-use Rattle.ultra_serial_law.proofs.MemoryForest.{all_taken}
-use Rattle.ultra_serial_law.proofs.Absorbing.{kept_passing, lost, brought, event_kept}
-use Rattle.ultra_serial_law.proofs.Law.{IsSerial, list_of, servings, meetings, issues_of}
+use Rattle.ultra_serial_law.proofs.{LaneForest.{Combines, within_each}, MemoryForest.all_taken, Absorbing.{kept_passing, lost, brought, event_kept}, Law.{IsSerial, list_of, servings, meetings, issues_of}}
 
 module _ (t : ℕ → ℕ → Bool) where
   abbrev pub all_lost : List Event → ℕ

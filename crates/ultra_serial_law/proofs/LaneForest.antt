@@ -2,27 +2,14 @@
 use Rattle.std.proofs.Common.{◌≡◌, ℕ, suc, ◌+◌, ◌≤◌, List, [], ◌∷◌, ◌++◌, Bool, true, false, refl, arith, sym, ◌∙◌, ap, ◌⊎◌, inl, inr, append_assoc, length}
 use Rattle.std.specs.Prelude.{Option, Some, None, IfSome, ◌==◌, ◌&&◌, not, nat_lt}
 use Rattle.std.specs.List.{AllByRecursion}
-use Rattle.std.proofs.lemmas.Bool.{eqb-true}
-use Rattle.std.proofs.lemmas.List.{append-nil}
-use Rattle.ultra_msg.specs.declared.Request.{Request}
-use Rattle.ultra_msg.specs.declared.Event.{Event}
-use Rattle.ultra_msg.specs.declared.Event.TheVariants.{Combined}
-use Rattle.ultra_msg.specs.Pair.{pair_of}
-use Rattle.ultra_switch.specs.declared.QueueEntry.{QueueEntry}
-use Rattle.ultra_switch.specs.declared.WaitRecord.{WaitRecord}
+use Rattle.std.proofs.lemmas.{Bool.eqb-true, List.append-nil}
+use Rattle.ultra_msg.specs.{declared.{Request.Request, Event.{Event, TheVariants.Combined}}, Pair.pair_of}
+use Rattle.ultra_switch.specs.declared.{QueueEntry.QueueEntry, WaitRecord.WaitRecord}
 use Rattle.ultra_switch.specs.Arrive.{Lane, Combination, entry, behind, can_combine, wait_record, combined_entry, combine, combine_within, after_arrival, arrive}
-use Rattle.ultra_model.specs.Machine.{Settings, Machine}
-use Rattle.ultra_model.specs.Phases.{arrive_all, combination, combinations}
-use Rattle.ultra_model.specs.Balance.{weight, count, passes, entry_passes}
-use Rattle.ultra_model.proofs.Each.{each-append, each-weaker, if_tested}
-use Rattle.ultra_model.proofs.Counting.{both_true, count-append, is_reference}
-use Rattle.ultra_serial_law.specs.Tree.{Kept}
-use Rattle.ultra_serial_law.specs.Log.{LoggedIssue}
-use Rattle.ultra_serial_law.proofs.Series.{sent}
-use Rattle.ultra_serial_law.proofs.Tidy.{old_records, marked_in, zero_weight}
-use Rattle.ultra_serial_law.proofs.Forest.{find_record, built}
-use Rattle.ultra_serial_law.proofs.Explained.{IsIn, in-append, in-append_right, IsKeptAt, IsGiven}
-use Rattle.ultra_serial_law.proofs.Mentions.{mention, mentions, sum-append}
+use Rattle.ultra_model.specs.{Machine.{Settings, Machine}, Phases.{arrive_all, combination, combinations}, Balance.{weight, count, passes, entry_passes}}
+use Rattle.ultra_model.proofs.{Each.{each-append, each-weaker, if_tested}, Counting.{both_true, count-append, is_reference}}
+use Rattle.ultra_serial_law.specs.{Tree.Kept, Log.LoggedIssue}
+use Rattle.ultra_serial_law.proofs.{Series.sent, Tidy.{old_records, marked_in, zero_weight}, Forest.{find_record, built}, Explained.{IsIn, in-append, in-append_right, IsKeptAt, IsGiven}, Mentions.{mention, mentions, sum-append}}
 
 -- ---- lists
 pub in_counts : {X : Type 0} (t : X → Bool) (x : X) (xs : List X) → IsIn x xs → t x ≡ true → 1 ≤ count t xs

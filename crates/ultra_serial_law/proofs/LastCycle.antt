@@ -1,14 +1,10 @@
 -- the trace ends with the last cycle that the settings allow, or where the machine is quiet; so its
 -- last cycle has the history of all cycles that they allow
 use Rattle.std.proofs.Common.{◌≡◌, ℕ, zero, suc, ◌+◌, ◌<◌, ◌≤◌, ◌⊎◌, List, Bool, true, false, refl, ap, arith, inl, inr, subst, cond, Option, Some}
-use Rattle.std.specs.List.{find, range_with_len}
-use Rattle.std.specs.Option.{unwrap_or}
+use Rattle.std.specs.{List.{find, range_with_len}, Option.unwrap_or}
 use Rattle.ultra_isa.specs.declared.Instr.{Instr}
-use Rattle.ultra_model.specs.Machine.{Settings, is_quiet}
-use Rattle.ultra_model.specs.Phases.{after}
-use Rattle.ultra_model.specs.Trace.{cycle_count}
-use Rattle.ultra_serial_law.specs.Legal.{given, replayed}
-use Rattle.ultra_serial_law.specs.SerialList.{History, history, serial_list}
+use Rattle.ultra_model.specs.{Machine.{Settings, is_quiet}, Phases.after, Trace.cycle_count}
+use Rattle.ultra_serial_law.specs.{Legal.{given, replayed}, SerialList.{History, history, serial_list}}
 use Rattle.ultra_serial_law.proofs.Rest.{quiet_history}
 
 -- ---- the first number of a range that passes a test, or d where none does

@@ -2,51 +2,25 @@
 use Rattle.std.proofs.Common.{◌≡◌, ℕ, zero, suc, ◌+◌, ◌*◌, ◌/◌, ◌%◌, ◌<◌, ◌≤◌, List, [], ◌∷◌, ◌++◌, Bool, true, false, refl, arith, sym, ◌∙◌, ap, subst, ⊎_elim, append_assoc}
 use Rattle.std.specs.Prelude.{Option, Some, None, IfSome, slice_get, slice_index, ◌==◌}
 use Rattle.std.specs.List.{AllByRecursion}
-use Rattle.std.proofs.lemmas.Bool.{cases_lt}
-use Rattle.std.proofs.lemmas.Bool.Decides.{nat_tests}
-use Rattle.std.proofs.lemmas.Nat.{pow_pos, div_below, div-add-mod'}
-use Rattle.std.proofs.lemmas.List.{get_or_past, append-nil}
-use Rattle.std.proofs.lemmas.List.Elements.{recursion_from_All}
-use Rattle.ultra_msg.specs.Bytes.{IsPrefix}
-use Rattle.ultra_msg.specs.declared.Request.{Request}
-use Rattle.ultra_msg.specs.declared.ReplyMessage.{ReplyMessage}
-use Rattle.ultra_msg.specs.declared.Event.{Event}
-use Rattle.ultra_msg.specs.declared.Event.TheVariants.{Delivered, Served, Combined}
+use Rattle.std.proofs.lemmas.{Bool.{cases_lt, Decides.nat_tests}, Nat.{pow_pos, div_below, div-add-mod'}, List.{get_or_past, append-nil, Elements.recursion_from_All}}
+use Rattle.ultra_msg.specs.{Bytes.IsPrefix, declared.{Request.Request, ReplyMessage.ReplyMessage, Event.{Event, TheVariants.{Delivered, Served, Combined}}}}
 use Rattle.ultra_route.specs.Route.{shuffled}
 use Rattle.ultra_switch.specs.Arrive.{Lane, Combination, combine_within, arrive}
-use Rattle.ultra_mem.specs.declared.Served.{Served as Act}
-use Rattle.ultra_mem.specs.Serve.{ModuleState, served}
+use Rattle.ultra_mem.specs.{declared.Served.Served as Act, Serve.{ModuleState, served}}
 use Rattle.ultra_isa.specs.declared.Instr.{Instr}
-use Rattle.ultra_model.specs.Places.{places, table, joined, present}
+use Rattle.ultra_model.specs.{Places.{places, table, joined, present}, Balance.count, Ranges.AreInRange, Trace.cell_value, Sound.IsSound}
 use Rattle.ultra_model.specs.Machine.{Settings, Machine, Element, size, last_stage, start, given_value, replies_at, module_at, element_at}
 use Rattle.ultra_model.specs.Phases.{delivery, delivered, deliver, without_reply, arriving_reply, with_request, entering, issue_event, step_at, serving, combination, combinations, lane_after_leaving, arrivals, reply_phase, memory_phase, request_phase, processor_phase, cycle, after}
-use Rattle.ultra_model.specs.Balance.{count}
-use Rattle.ultra_model.specs.Ranges.{AreInRange}
-use Rattle.ultra_model.specs.Trace.{cell_value}
-use Rattle.ultra_model.specs.Sound.{IsSound}
 use Rattle.ultra_model.proofs.Each.{each-append, each-weaker, each-places, each-present, each-joined, each-first, some-weaker, places_at, length-places}
-use Rattle.ultra_model.proofs.Routes.{turns_back, module_small}
-use Rattle.ultra_model.proofs.Sound.{sound-start, sound-reply_phase, sound-memory_phase, sound-request_phase, sound-processor_phase}
+use Rattle.ultra_model.proofs.{Routes.{turns_back, module_small}, Sound.{sound-start, sound-reply_phase, sound-memory_phase, sound-request_phase, sound-processor_phase}, Neighbours.other}
 use Rattle.ultra_model.proofs.AtPlaces.{lane-start, replies-start, memory_module-start, element-start, memory_module-reply_phase, memory_module-request_phase, element-reply_phase, element-request_phase}
-use Rattle.ultra_model.proofs.Neighbours.{other}
-use Rattle.ultra_serial_law.specs.Tree.{NamedRequest, served_leaves}
-use Rattle.ultra_serial_law.specs.Log.{LoggedIssue, LoggedAnswer}
+use Rattle.ultra_serial_law.specs.{Tree.{NamedRequest, served_leaves}, Log.{LoggedIssue, LoggedAnswer}, Chain.{AreChained, SerializationLaw}}
 use Rattle.ultra_serial_law.specs.Legal.{Entry as Done, Has, Cells, with_cell, given_over, given, answered_by, leaf_of_entry, cells_after, replayed, IsLegal}
 use Rattle.ultra_serial_law.specs.SerialList.{History, empty_history, noted, after_event, history, serial_list}
-use Rattle.ultra_serial_law.specs.Chain.{AreChained, SerializationLaw}
 use Rattle.ultra_serial_law.proofs.Tidy.{IsTidy, tidy-start, tidy-reply_phase, tidy-memory_phase, tidy-request_phase, tidy-processor_phase, that_is}
-use Rattle.ultra_serial_law.proofs.Forest.{leaf_of, built_leaf}
-use Rattle.ultra_serial_law.proofs.Explained.{IsIn, IsExplained, IsAnswered, IsForest}
-use Rattle.ultra_serial_law.proofs.Mentions.{noted_trees}
-use Rattle.ultra_serial_law.proofs.ReplyForest.{forest-reply_phase}
-use Rattle.ultra_serial_law.proofs.RequestForest.{forest-request_phase, in_holds}
-use Rattle.ultra_serial_law.proofs.MemoryForest.{noted-append, all_acted, forest-memory_phase}
-use Rattle.ultra_serial_law.proofs.ProcessorForest.{issues_noted, noted_issues, forest-processor_phase}
-use Rattle.ultra_serial_law.proofs.Named.{IsNoIssue, IsLogged}
+use Rattle.ultra_serial_law.proofs.{Forest.{leaf_of, built_leaf}, Explained.{IsIn, IsExplained, IsAnswered, IsForest}, Mentions.noted_trees, ReplyForest.forest-reply_phase, RequestForest.{forest-request_phase, in_holds}, MemoryForest.{noted-append, all_acted, forest-memory_phase}, ProcessorForest.{issues_noted, noted_issues, forest-processor_phase}, Named.{IsNoIssue, IsLogged}, LastCycle.list_at_end, Replays.replayed-append}
 use Rattle.ultra_serial_law.proofs.Issued.{is_named, IsEarlier, IsRecorded, same_issues, recorded_noted, recorded_issued, each_issued, sent_own, NewIssue}
 use Rattle.ultra_serial_law.proofs.Answered.{IsAnsweredWell, answered_more, answered_issued, DeliversWell, delivered_answers, IsNoDelivery, same_answers, IsNoAct, same_order, same_trees}
-use Rattle.ultra_serial_law.proofs.LastCycle.{list_at_end}
-use Rattle.ultra_serial_law.proofs.Replays.{replayed-append}
 use Rattle.ultra_serial_law.proofs.Lists.{in_has, has_in, one_place, get_left, get_before, requests_of, count_replayed, each_replayed}
 
 -- ---- what holds of a machine and its history between any two phases of cycle n

@@ -1,13 +1,11 @@
 -- lists by their places, for what a legal list says
 use Rattle.std.proofs.Common.{◌≡◌, ℕ, zero, suc, ◌+◌, ◌<◌, ◌≤◌, List, [], ◌∷◌, ◌++◌, Bool, true, refl, arith, ap, inl, inr, map}
-use Rattle.std.specs.Prelude.{Some, slice_get}
-use Rattle.std.specs.List.{AllByRecursion}
+use Rattle.std.specs.{Prelude.{Some, slice_get}, List.AllByRecursion}
 use Rattle.ultra_model.specs.Balance.{weight, count}
 use Rattle.ultra_serial_law.specs.Tree.{NamedRequest}
 use Rattle.ultra_msg.specs.Act.{act}
 use Rattle.ultra_serial_law.specs.Legal.{Entry as Done, Has, Cells, with_cell, leaf_of_entry, replayed}
-use Rattle.ultra_serial_law.proofs.Explained.{IsIn}
-use Rattle.ultra_serial_law.proofs.LaneForest.{in_counts}
+use Rattle.ultra_serial_law.proofs.{Explained.IsIn, LaneForest.in_counts}
 
 in_at : {X : Type 0} (xs : List X) (x : X) (k : ℕ) → slice_get xs k ≡ Some x → IsIn x xs
 in_at [] x k e = absurd cc

@@ -2,43 +2,19 @@
 use Rattle.std.proofs.Common.{◌≡◌, ◌≢◌, ℕ, zero, suc, ◌+◌, ◌*◌, ◌/◌, ◌%◌, ◌<◌, ◌≤◌, List, [], ◌∷◌, ◌++◌, Bool, true, false, refl, arith, sym, ◌∙◌, ap, subst, ⊎_elim, length, map, append_assoc}
 use Rattle.std.specs.Prelude.{Option, Some, None, IfSome, slice_index, slice_set, ◌==◌, ◌&&◌}
 use Rattle.std.specs.List.{AllByRecursion, range_with_len}
-use Rattle.std.proofs.lemmas.Bool.{cases_lt, cases_eq}
-use Rattle.std.proofs.lemmas.Nat.{pow_pos}
-use Rattle.std.proofs.lemmas.List.{get_or-set_same, get_or-set_other, append-nil}
-use Rattle.ultra_msg.specs.declared.Reply.{Reply}
-use Rattle.ultra_msg.specs.declared.Request.{Request}
-use Rattle.ultra_msg.specs.declared.ReplyMessage.{ReplyMessage}
-use Rattle.ultra_msg.specs.declared.Event.{Event}
-use Rattle.ultra_msg.specs.declared.Event.TheVariants.{Served}
-use Rattle.ultra_msg.specs.Act.{act}
-use Rattle.ultra_switch.specs.declared.QueueEntry.{QueueEntry}
-use Rattle.ultra_switch.specs.declared.WaitRecord.{WaitRecord}
+use Rattle.std.proofs.lemmas.{Bool.{cases_lt, cases_eq}, Nat.pow_pos, List.{get_or-set_same, get_or-set_other, append-nil}}
+use Rattle.ultra_msg.specs.{declared.{Reply.Reply, Request.Request, ReplyMessage.ReplyMessage, Event.{Event, TheVariants.Served}}, Act.act}
+use Rattle.ultra_switch.specs.declared.{QueueEntry.QueueEntry, WaitRecord.WaitRecord}
 use Rattle.ultra_mem.specs.declared.Placed.{Placed}
 use Rattle.ultra_mem.specs.Serve.{ModuleState, serve, served, to_serve, act_of, after_serving, value_at}
-use Rattle.ultra_model.specs.Places.{places, present}
+use Rattle.ultra_model.specs.{Places.{places, present}, Phases.{serving, memory_phase}, Ranges.AreInRange, Trace.cell_value, Shape.HasShape, Routed.{module_of, IsPlacedAt, IsEntryAt, IsOwn, IsRouted}}
 use Rattle.ultra_model.specs.Machine.{Settings, Machine, size, lane_at, replies_at, module_at, element_at}
-use Rattle.ultra_model.specs.Phases.{serving, memory_phase}
-use Rattle.ultra_model.specs.Ranges.{AreInRange}
-use Rattle.ultra_model.specs.Trace.{cell_value}
-use Rattle.ultra_model.specs.Shape.{HasShape}
-use Rattle.ultra_model.specs.Routed.{module_of, IsPlacedAt, IsEntryAt, IsOwn, IsRouted}
 use Rattle.ultra_model.specs.Balance.{count_option, total, passes, entry_passes, lane_on_way, module_on_way, pending_on_way, on_way, IsBalanced}
-use Rattle.ultra_model.proofs.Each.{each-weaker, some-weaker}
-use Rattle.ultra_model.proofs.Sums.{total_same, total_plus, total_term, table_term}
-use Rattle.ultra_model.proofs.Counting.{is_reference}
-use Rattle.ultra_model.proofs.Neighbours.{other}
-use Rattle.ultra_model.proofs.Routes.{module_small, placed_within}
-use Rattle.ultra_model.proofs.AtPlaces.{memory_module-memory_phase}
-use Rattle.ultra_serial_law.specs.Tree.{Tree, Kept, tree_of, leaves, leaves_of}
-use Rattle.ultra_serial_law.specs.Log.{LoggedIssue}
-use Rattle.ultra_serial_law.specs.Legal.{Entry as Done, Cells, cells_after, replayed}
-use Rattle.ultra_serial_law.specs.SerialList.{History, noted, after_event}
-use Rattle.ultra_serial_law.proofs.Series.{sent, value_after, IsSeries, in_series}
-use Rattle.ultra_serial_law.proofs.Tidy.{that_is, total_most}
+use Rattle.ultra_model.proofs.{Each.{each-weaker, some-weaker}, Sums.{total_same, total_plus, total_term, table_term}, Counting.is_reference, Neighbours.other, Routes.{module_small, placed_within}, AtPlaces.memory_module-memory_phase}
+use Rattle.ultra_serial_law.specs.{Tree.{Tree, Kept, tree_of, leaves, leaves_of}, Log.LoggedIssue, Legal.{Entry as Done, Cells, cells_after, replayed}, SerialList.{History, noted, after_event}}
+use Rattle.ultra_serial_law.proofs.{Series.{sent, value_after, IsSeries, in_series}, Tidy.{that_is, total_most}, Standing.{each_in, some_in, once}, ReplyForest.{each_and, some_and}}
 use Rattle.ultra_serial_law.proofs.Forest.{built, built_leaf, built_next, built_proper, grown, position_of, record_at}
-use Rattle.ultra_serial_law.proofs.Standing.{each_in, some_in, once}
 use Rattle.ultra_serial_law.proofs.Explained.{IsExplained, explained_more, bound, IsKeptAt, IsAnswered, IsGiven, IsForest}
-use Rattle.ultra_serial_law.proofs.ReplyForest.{each_and, some_and}
 use Rattle.ultra_serial_law.proofs.Mentions.{mentions, mention_some, present_mentions, sum-places, noted_trees, unmentioned, without_other}
 use Rattle.ultra_serial_law.proofs.Replays.{AreFor, cells-append, replayed-append, explained_right, cell_after, cell_kept, built_is_for, for_leaves, replay_explains}
 

@@ -1,17 +1,12 @@
 -- what several events do to the trees that are kept, where each reference is named at most once
 use Rattle.std.proofs.Common.{◌≡◌, ℕ, zero, suc, ◌+◌, ◌<◌, ◌≤◌, List, [], ◌∷◌, ◌++◌, Bool, true, false, refl, arith, sym, ◌∙◌, ap, subst, inl, inr, map}
-use Rattle.std.specs.Prelude.{Option, Some, None}
-use Rattle.std.specs.List.{range_with_len}
-use Rattle.ultra_msg.specs.declared.Event.{Event}
-use Rattle.ultra_msg.specs.declared.Event.TheVariants.{Delivered, Served, Combined, Issued}
-use Rattle.ultra_model.specs.Places.{places, table, joined, present}
-use Rattle.ultra_model.specs.Balance.{weight, total}
-use Rattle.ultra_model.proofs.Sums.{total_none, total_front, total_same}
-use Rattle.ultra_model.proofs.Counting.{is_reference}
+use Rattle.std.specs.{Prelude.{Option, Some, None}, List.range_with_len}
+use Rattle.ultra_msg.specs.declared.Event.{Event, TheVariants.{Delivered, Served, Combined, Issued}}
+use Rattle.ultra_model.specs.{Places.{places, table, joined, present}, Balance.{weight, total}}
+use Rattle.ultra_model.proofs.{Sums.{total_none, total_front, total_same}, Counting.is_reference}
 use Rattle.ultra_serial_law.specs.Tree.{Tree, pair, Kept, kept, is_under, tree_of, without, with_pair, trees_after}
 use Rattle.ultra_serial_law.specs.SerialList.{History, noted, after_event}
-use Rattle.ultra_serial_law.proofs.Tidy.{is_that, that_is, zero_weight}
-use Rattle.ultra_serial_law.proofs.Explained.{IsIn, in-append, in-append_right}
+use Rattle.ultra_serial_law.proofs.{Tidy.{is_that, that_is, zero_weight}, Explained.{IsIn, in-append, in-append_right}}
 
 -- how often an event names a reference whose tree it changes
 abbrev pub mention : (ℕ → ℕ → Bool) → Event → ℕ

@@ -1,18 +1,13 @@
 -- every leaf was issued, and no name occurs twice among the leaves that were served and those of
 -- the kept trees
 use Rattle.std.proofs.Common.{◌≡◌, ℕ, ◌+◌, ◌≤◌, List, [], ◌∷◌, ◌++◌, Bool, true, false, refl, arith, inl}
-use Rattle.std.specs.Prelude.{Option, Some, None}
-use Rattle.std.specs.List.{AllByRecursion}
-use Rattle.ultra_msg.specs.declared.Event.{Event}
-use Rattle.ultra_msg.specs.declared.Event.TheVariants.{Delivered, Served, Combined, Issued}
+use Rattle.std.specs.{Prelude.{Option, Some, None}, List.AllByRecursion}
+use Rattle.ultra_msg.specs.declared.Event.{Event, TheVariants.{Delivered, Served, Combined, Issued}}
 use Rattle.ultra_model.specs.Balance.{count}
-use Rattle.ultra_model.proofs.Each.{each-append, each-weaker}
-use Rattle.ultra_model.proofs.Counting.{count-append}
+use Rattle.ultra_model.proofs.{Each.{each-append, each-weaker}, Counting.count-append}
 use Rattle.ultra_serial_law.specs.Tree.{Tree, pair, NamedRequest, leaves, Kept, is_under, tree_of, without, with_pair, leaves_of}
-use Rattle.ultra_serial_law.specs.Log.{LoggedIssue}
-use Rattle.ultra_serial_law.specs.SerialList.{History, noted, after_event}
-use Rattle.ultra_serial_law.proofs.Explained.{IsIn, in-append, in-append_right}
-use Rattle.ultra_serial_law.proofs.Mentions.{sum_of}
+use Rattle.ultra_serial_law.specs.{Log.LoggedIssue, SerialList.{History, noted, after_event}}
+use Rattle.ultra_serial_law.proofs.{Explained.{IsIn, in-append, in-append_right}, Mentions.sum_of}
 
 -- ---- how often a test passes among the leaves of a history
 abbrev pub tree_leaves : (NamedRequest → Bool) → Kept → ℕ

@@ -1,33 +1,16 @@
 -- a request that is issued isn't kept yet, and there is room for it
 use Rattle.std.proofs.Common.{◌≡◌, ◌≢◌, ℕ, ◌+◌, ◌<◌, ◌≤◌, List, [], ◌∷◌, Bool, true, false, ◌==◌, length, refl, arith, ◌∙◌, ap, subst}
-use Rattle.std.specs.Prelude.{Option, Some, None}
-use Rattle.std.specs.List.{AllByRecursion}
-use Rattle.ultra_msg.specs.declared.Request.{Request}
-use Rattle.ultra_msg.specs.declared.Event.{Event}
-use Rattle.ultra_msg.specs.declared.Event.TheVariants.{Delivered, Served, Combined, Issued}
-use Rattle.ultra_pni.specs.declared.OpenCell.{OpenCell}
-use Rattle.ultra_pni.specs.Interface.{Interface, is_open}
+use Rattle.std.specs.{Prelude.{Option, Some, None}, List.AllByRecursion}
+use Rattle.ultra_msg.specs.declared.{Request.Request, Event.{Event, TheVariants.{Delivered, Served, Combined, Issued}}}
+use Rattle.ultra_pni.specs.{declared.OpenCell.OpenCell, Interface.{Interface, is_open}}
 use Rattle.ultra_isa.specs.declared.Instr.{Instr}
 use Rattle.ultra_isa.proofs.Steps.{SendsInto}
-use Rattle.ultra_model.specs.Places.{places}
+use Rattle.ultra_model.specs.{Places.places, Phases.{issue_event, step_at}, Ranges.AreInRange, Balance.{weight, count, opened_by, all_opened}}
 use Rattle.ultra_model.specs.Machine.{Settings, Machine, Element, size, site, element_at}
-use Rattle.ultra_model.specs.Phases.{issue_event, step_at}
-use Rattle.ultra_model.specs.Ranges.{AreInRange}
-use Rattle.ultra_model.specs.Balance.{weight, count, opened_by, all_opened}
-use Rattle.ultra_model.proofs.Sums.{total_only}
-use Rattle.ultra_model.proofs.Counting.{is_reference, count-all, count-none, count-same}
-use Rattle.ultra_model.proofs.Neighbours.{itself, other}
-use Rattle.ultra_model.proofs.Balanced.{none_open, sends}
-use Rattle.ultra_serial_law.specs.Tree.{Tree, Kept, is_under, tree_of, trees_after}
-use Rattle.ultra_serial_law.specs.SerialList.{History}
-use Rattle.ultra_serial_law.specs.Explicable.{held_by, IsAbsorbable, AreAbsorbable}
-use Rattle.ultra_serial_law.proofs.Tidy.{zero_weight}
-use Rattle.ultra_serial_law.proofs.Explained.{IsIn}
+use Rattle.ultra_model.proofs.{Sums.total_only, Counting.{is_reference, count-all, count-none, count-same}, Neighbours.{itself, other}, Balanced.{none_open, sends}}
+use Rattle.ultra_serial_law.specs.{Tree.{Tree, Kept, is_under, tree_of, trees_after}, SerialList.History, Explicable.{held_by, IsAbsorbable, AreAbsorbable}}
+use Rattle.ultra_serial_law.proofs.{Tidy.zero_weight, Explained.IsIn, Issued.{each_issued, sent_own}, Absorbing.{each_member, kept_passing}, KeptTrees.{requests_of, requests_within}, Law.{IsSerial, issues_of}}
 use Rattle.ultra_serial_law.proofs.Mentions.{mentions, mention_some, present_mentions, in_mentions, sum-places, unmentioned}
-use Rattle.ultra_serial_law.proofs.Issued.{each_issued, sent_own}
-use Rattle.ultra_serial_law.proofs.Absorbing.{each_member, kept_passing}
-use Rattle.ultra_serial_law.proofs.KeptTrees.{requests_of, requests_within}
-use Rattle.ultra_serial_law.proofs.Law.{IsSerial, issues_of}
 
 -- ---- trees of one processing element, and of one reference
 abbrev pub is_of : ℕ → ℕ → ℕ → Bool

@@ -3,8 +3,7 @@ use Rattle.std.proofs.Common.{◌≡◌, ℕ, zero, suc, ◌+◌, ◌-◌, ◌�
 use Rattle.ultra_msg.specs.Bytes.{IsPrefix}
 use Rattle.ultra_msg.proofs.Prefixes.{prefix_itself, prefix_then}
 use Rattle.ultra_isa.specs.declared.Instr.{Instr}
-use Rattle.ultra_model.specs.Machine.{Settings}
-use Rattle.ultra_model.specs.Ranges.{AreInRange}
+use Rattle.ultra_model.specs.{Machine.Settings, Ranges.AreInRange}
 use Rattle.ultra_serial_law.specs.SerialList.{serial_list}
 use Rattle.ultra_serial_law.proofs.Law.{are_chained}
 

@@ -1,43 +1,24 @@
 -- the processor phase: each request that is issued has its own leaf
 use Rattle.std.proofs.Common.{◌≡◌, ◌≢◌, ℕ, ◌<◌, ◌≤◌, List, [], ◌∷◌, ◌++◌, Bool, true, false, refl, arith, sym, ◌∙◌, ap, subst, ⊎_elim, inl, inr}
-use Rattle.std.specs.Prelude.{Option, Some, None, IfSome, ◌==◌}
-use Rattle.std.specs.List.{AllByRecursion}
+use Rattle.std.specs.{Prelude.{Option, Some, None, IfSome, ◌==◌}, List.AllByRecursion}
 use Rattle.std.proofs.lemmas.Bool.{cases_Bool}
-use Rattle.ultra_msg.specs.declared.Op.{Op}
-use Rattle.ultra_msg.specs.declared.Op.TheVariants.{Load}
-use Rattle.ultra_msg.specs.declared.Request.{Request}
-use Rattle.ultra_msg.specs.declared.ReplyMessage.{ReplyMessage}
-use Rattle.ultra_msg.specs.declared.Event.{Event}
-use Rattle.ultra_msg.specs.declared.Event.TheVariants.{Delivered, Served, Combined, Issued}
-use Rattle.ultra_switch.specs.declared.QueueEntry.{QueueEntry}
-use Rattle.ultra_switch.specs.declared.WaitRecord.{WaitRecord}
+use Rattle.ultra_msg.specs.declared.{Op.{Op, TheVariants.Load}, Request.Request, ReplyMessage.ReplyMessage, Event.{Event, TheVariants.{Delivered, Served, Combined, Issued}}}
+use Rattle.ultra_switch.specs.declared.{QueueEntry.QueueEntry, WaitRecord.WaitRecord}
 use Rattle.ultra_mem.specs.declared.Placed.{Placed}
-use Rattle.ultra_pni.specs.declared.OpenCell.{OpenCell}
-use Rattle.ultra_pni.specs.Interface.{Interface}
+use Rattle.ultra_pni.specs.{declared.OpenCell.OpenCell, Interface.Interface}
 use Rattle.ultra_isa.specs.declared.Instr.{Instr}
 use Rattle.ultra_isa.proofs.Steps.{SendsInto}
-use Rattle.ultra_model.specs.Places.{places, present}
+use Rattle.ultra_model.specs.{Places.{places, present}, Phases.{issue_event, step_at, processor_phase}, Ranges.AreInRange}
 use Rattle.ultra_model.specs.Machine.{Settings, Machine, Element, size, site, lane_at, replies_at, module_at, element_at}
-use Rattle.ultra_model.specs.Phases.{issue_event, step_at, processor_phase}
-use Rattle.ultra_model.specs.Ranges.{AreInRange}
 use Rattle.ultra_model.specs.Routed.{IsEntryAt, IsRecordAt, IsReplyAt, IsPlacedAt, IsReplyOf, IsOwn, IsRouted}
 use Rattle.ultra_model.specs.Balance.{weight, count, total, passes, reply_passes, entry_passes, record_passes, lane_on_way, replies_on_way, module_on_way, pending_on_way, on_way, IsBalanced}
-use Rattle.ultra_model.proofs.Each.{each-append}
-use Rattle.ultra_model.proofs.Sums.{total_next, total_only, total_term, table_term}
-use Rattle.ultra_model.proofs.Counting.{is_reference}
-use Rattle.ultra_model.proofs.ReplyBalance.{opened_once}
-use Rattle.ultra_model.proofs.Balanced.{none_open, sends}
-use Rattle.ultra_model.proofs.AtPlaces.{element-processor_phase}
+use Rattle.ultra_model.proofs.{Each.each-append, Sums.{total_next, total_only, total_term, table_term}, Counting.is_reference, ReplyBalance.opened_once, Balanced.{none_open, sends}, AtPlaces.element-processor_phase}
 use Rattle.ultra_serial_law.specs.Tree.{Tree, leaf, NamedRequest, Kept, kept, tree_of}
-use Rattle.ultra_serial_law.specs.Log.{LoggedIssue, latest_number, is_issue_for}
-use Rattle.ultra_serial_law.specs.Legal.{Entry as Done}
-use Rattle.ultra_serial_law.specs.SerialList.{History, noted, after_event}
-use Rattle.ultra_serial_law.proofs.Series.{sent}
+use Rattle.ultra_serial_law.specs.{Log.{LoggedIssue, latest_number, is_issue_for}, Legal.Entry as Done, SerialList.{History, noted, after_event}}
+use Rattle.ultra_serial_law.proofs.{Series.sent, Standing.{each_in, some_in, marked_lanes, position_small}, ReplyForest.{each_and, some_and}}
 use Rattle.ultra_serial_law.proofs.Tidy.{old_records, lanes_of, IsTidy, that_is, is_that, zero_weight}
 use Rattle.ultra_serial_law.proofs.Forest.{latest_op, leaf_of, record_at, position_of, built, built_leaf, same_built, found_record, found_partner}
-use Rattle.ultra_serial_law.proofs.Standing.{each_in, some_in, marked_lanes, position_small}
 use Rattle.ultra_serial_law.proofs.Explained.{IsIn, IsExplained, bound, bound_small, IsKeptAt, IsAnswered, IsGiven, IsForest}
-use Rattle.ultra_serial_law.proofs.ReplyForest.{each_and, some_and}
 use Rattle.ultra_serial_law.proofs.Mentions.{mention, mentions, mention_some, present_mentions, sum-places, in-places, trees_noted, unmentioned}
 
 -- ---- the issues after events

@@ -1,17 +1,12 @@
 -- replaying the leaves of a tree, which are all for one cell
 use Rattle.std.proofs.Common.{◌≡◌, ◌≢◌, ℕ, zero, suc, List, [], ◌∷◌, ◌++◌, Bool, true, false, refl, sym, ◌∙◌, ap, subst, inl}
-use Rattle.std.specs.Prelude.{Option, Some, None}
-use Rattle.std.specs.List.{AllByRecursion}
-use Rattle.ultra_msg.specs.declared.Reply.{Reply}
-use Rattle.ultra_msg.specs.Act.{act}
-use Rattle.ultra_msg.specs.Pair.{pair_of, KeepsBoth}
+use Rattle.std.specs.{Prelude.{Option, Some, None}, List.AllByRecursion}
+use Rattle.ultra_msg.specs.{declared.Reply.Reply, Act.act, Pair.{pair_of, KeepsBoth}}
 use Rattle.ultra_msg.proofs.Pairs.{pair_keeps}
 use Rattle.ultra_switch.specs.declared.WaitRecord.{WaitRecord}
 use Rattle.ultra_model.specs.Machine.{Settings, Machine}
-use Rattle.ultra_model.proofs.Each.{each-append}
-use Rattle.ultra_model.proofs.Neighbours.{itself, other}
-use Rattle.ultra_serial_law.specs.Tree.{Tree, leaf, pair, NamedRequest, leaves}
-use Rattle.ultra_serial_law.specs.Log.{LoggedIssue}
+use Rattle.ultra_model.proofs.{Each.each-append, Neighbours.{itself, other}}
+use Rattle.ultra_serial_law.specs.{Tree.{Tree, leaf, pair, NamedRequest, leaves}, Log.LoggedIssue}
 use Rattle.ultra_serial_law.specs.Legal.{Entry as Done, Cells, with_cell, answered_by, cells_after, replayed}
 use Rattle.ultra_serial_law.proofs.Series.{sent, to_old, to_new, IsProper, value_after, in_series}
 use Rattle.ultra_serial_law.proofs.Forest.{built, built_leaf, built_next, grown, record_at, position_of}

@@ -2,25 +2,13 @@
 use Rattle.std.proofs.Common.{◌≡◌, ℕ, zero, suc, ◌<◌, List, [], ◌∷◌, ◌++◌, refl, sym, ◌∙◌, ap, subst, append_assoc}
 use Rattle.std.specs.List.{AllByRecursion}
 use Rattle.std.proofs.lemmas.List.{append-nil}
-use Rattle.ultra_msg.specs.declared.Event.{Event}
-use Rattle.ultra_msg.specs.declared.Event.TheVariants.{Delivered, Served, Combined, Issued}
+use Rattle.ultra_msg.specs.declared.Event.{Event, TheVariants.{Delivered, Served, Combined, Issued}}
 use Rattle.ultra_isa.specs.declared.Instr.{Instr}
-use Rattle.ultra_model.specs.Machine.{Settings, Machine}
-use Rattle.ultra_model.specs.Phases.{reply_phase, memory_phase, request_phase, cycle, after}
-use Rattle.ultra_model.specs.Ranges.{AreInRange}
+use Rattle.ultra_model.specs.{Machine.{Settings, Machine}, Phases.{reply_phase, memory_phase, request_phase, cycle, after}, Ranges.AreInRange}
 use Rattle.ultra_model.proofs.Each.{each-append, each-weaker}
-use Rattle.ultra_serial_law.specs.Log.{LoggedIssue, LoggedAnswer, latest_number}
-use Rattle.ultra_serial_law.specs.Legal.{Entry as Done, Has, answered_by, leaf_of_entry, given}
-use Rattle.ultra_serial_law.specs.SerialList.{History, noted, after_event, history}
+use Rattle.ultra_serial_law.specs.{Log.{LoggedIssue, LoggedAnswer, latest_number}, Legal.{Entry as Done, Has, answered_by, leaf_of_entry, given}, SerialList.{History, noted, after_event, history}}
 use Rattle.ultra_serial_law.specs.Replies.{Delivery, deliveries_in, deliveries, IsAnswerOf, AreAnswersOf, ReplyLaw}
-use Rattle.ultra_serial_law.proofs.Forest.{leaf_of}
-use Rattle.ultra_serial_law.proofs.RequestForest.{in_holds}
-use Rattle.ultra_serial_law.proofs.MemoryForest.{noted-append}
-use Rattle.ultra_serial_law.proofs.ProcessorForest.{issues_noted, noted_issues}
-use Rattle.ultra_serial_law.proofs.Named.{IsNoIssue, IsLogged}
-use Rattle.ultra_serial_law.proofs.Issued.{IsEarlier, each_issued, same_issues}
-use Rattle.ultra_serial_law.proofs.Answered.{DeliversWell, IsNoDelivery, same_answers}
-use Rattle.ultra_serial_law.proofs.Lists.{has_in, get_left, each_replayed}
+use Rattle.ultra_serial_law.proofs.{Forest.leaf_of, RequestForest.in_holds, MemoryForest.noted-append, ProcessorForest.{issues_noted, noted_issues}, Named.{IsNoIssue, IsLogged}, Issued.{IsEarlier, each_issued, same_issues}, Answered.{DeliversWell, IsNoDelivery, same_answers}, Lists.{has_in, get_left, each_replayed}}
 use Rattle.ultra_serial_law.proofs.Law.{IsSerial, list_of, deliveries as delivered_now, delivers_well, any_delivery, servings, each_serving, meetings, each_meeting, issues_of, events_of, serial_after}
 
 -- ---- in order

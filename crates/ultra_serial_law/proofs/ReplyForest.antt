@@ -2,32 +2,19 @@
 use Rattle.std.proofs.Common.{◌≡◌, ℕ, suc, ◌+◌, ◌*◌, ◌/◌, ◌<◌, ◌≤◌, List, [], ◌∷◌, Bool, true, false, refl, arith, sym, ◌∙◌, ap, subst}
 use Rattle.std.specs.Prelude.{Option, Some, None, IfSome, slice_get, ◌==◌}
 use Rattle.std.specs.List.{AllByRecursion}
-use Rattle.std.proofs.lemmas.Bool.{eqb-true}
-use Rattle.std.proofs.lemmas.Bool.Decides.{nat_tests}
-use Rattle.ultra_msg.specs.declared.Request.{Request}
-use Rattle.ultra_msg.specs.declared.ReplyMessage.{ReplyMessage}
-use Rattle.ultra_msg.specs.Pair.{pair_of}
+use Rattle.std.proofs.lemmas.Bool.{eqb-true, Decides.nat_tests}
+use Rattle.ultra_msg.specs.{declared.{Request.Request, ReplyMessage.ReplyMessage}, Pair.pair_of}
 use Rattle.ultra_route.specs.Route.{shuffled}
-use Rattle.ultra_switch.specs.declared.QueueEntry.{QueueEntry}
-use Rattle.ultra_switch.specs.declared.WaitRecord.{WaitRecord}
-use Rattle.ultra_switch.specs.Split.{is_of, records_after, replies_of, old_reply, new_reply}
-use Rattle.ultra_mem.specs.declared.Placed.{Placed}
-use Rattle.ultra_mem.specs.Serve.{ModuleState}
+use Rattle.ultra_switch.specs.{declared.{QueueEntry.QueueEntry, WaitRecord.WaitRecord}, Split.{is_of, records_after, replies_of, old_reply, new_reply}}
+use Rattle.ultra_mem.specs.{declared.Placed.Placed, Serve.ModuleState}
 use Rattle.ultra_model.specs.Machine.{Settings, Machine, Element, size, last_stage, lane_at, replies_at, module_at, element_at, reply_exit}
 use Rattle.ultra_model.specs.Phases.{deliver, delivered, without_reply, records_left, replies_made, arriving_reply, reply_before, has_reply_room, leaving_reply, replies_at_exit, next_replies, reply_phase}
 use Rattle.ultra_model.specs.Ranges.{AreInRange}
 use Rattle.ultra_model.specs.Routed.{IsByLine, IsEntryAt, IsRecordAt, IsReplyAt, IsPlacedAt, IsReplyOf, IsRouted}
 use Rattle.ultra_model.specs.Balance.{weight, count, count_option, total, reply_passes, entry_passes, record_passes, lane_on_way, replies_on_way, module_on_way, IsBalanced}
-use Rattle.ultra_model.proofs.Each.{each-append, each-after_leaving, each-first, if_tested}
-use Rattle.ultra_model.proofs.OnRoute.{each-filter}
-use Rattle.ultra_model.proofs.Sums.{total_next, total_term}
-use Rattle.ultra_model.proofs.Counting.{is_reference, count-leaving}
-use Rattle.ultra_model.proofs.Routes.{routed-reply_phase, turns_back, arriving_reply_well, two_ports}
+use Rattle.ultra_model.proofs.{Each.{each-append, each-after_leaving, each-first, if_tested}, OnRoute.each-filter, Sums.{total_next, total_term}, Counting.{is_reference, count-leaving}, Routes.{routed-reply_phase, turns_back, arriving_reply_well, two_ports}, AtPlaces.{lane-reply_phase, replies-reply_phase, memory_module-reply_phase, element-reply_phase}}
 use Rattle.ultra_model.proofs.ReplyBalance as replies
-use Rattle.ultra_model.proofs.AtPlaces.{lane-reply_phase, replies-reply_phase, memory_module-reply_phase, element-reply_phase}
-use Rattle.ultra_serial_law.specs.Tree.{Kept}
-use Rattle.ultra_serial_law.specs.Log.{LoggedIssue}
-use Rattle.ultra_serial_law.specs.Legal.{Entry as Done}
+use Rattle.ultra_serial_law.specs.{Tree.Kept, Log.LoggedIssue, Legal.Entry as Done}
 use Rattle.ultra_serial_law.proofs.Series.{sent}
 use Rattle.ultra_serial_law.proofs.Tidy.{old_records, lanes_of, replies_of as stage_replies, IsTidy, total_most, is_that, that_is, zero_weight, comes, lanes_row, replies_row, tidy-reply_phase}
 use Rattle.ultra_serial_law.proofs.Forest.{find_record, record_at, position_of, built, built_leaf, built_next, grown, same_built, found_record, found_is, found_partner}

@@ -2,43 +2,24 @@
 use Rattle.std.proofs.Common.{◌≡◌, ℕ, suc, ◌+◌, ◌-◌, ◌*◌, ◌/◌, ◌%◌, ◌<◌, ◌≤◌, List, [], ◌∷◌, Bool, true, false, refl, arith, sym, ◌∙◌, ap, subst, ⊎_elim, inl, inr}
 use Rattle.std.specs.Prelude.{Option, Some, None, IfSome, slice_get, ◌==◌}
 use Rattle.std.specs.List.{AllByRecursion}
-use Rattle.std.proofs.lemmas.Bool.{cases_lt}
-use Rattle.std.proofs.lemmas.Bool.Decides.{nat_tests}
-use Rattle.ultra_msg.specs.declared.Request.{Request}
-use Rattle.ultra_msg.specs.declared.ReplyMessage.{ReplyMessage}
-use Rattle.ultra_msg.specs.declared.Event.{Event}
-use Rattle.ultra_msg.specs.declared.Event.TheVariants.{Combined}
-use Rattle.ultra_msg.specs.Pair.{pair_of}
+use Rattle.std.proofs.lemmas.Bool.{cases_lt, Decides.nat_tests}
+use Rattle.ultra_msg.specs.{declared.{Request.Request, ReplyMessage.ReplyMessage, Event.{Event, TheVariants.Combined}}, Pair.pair_of}
 use Rattle.ultra_route.specs.Route.{shuffled, unshuffled}
-use Rattle.ultra_switch.specs.declared.QueueEntry.{QueueEntry}
-use Rattle.ultra_switch.specs.declared.WaitRecord.{WaitRecord}
-use Rattle.ultra_switch.specs.Arrive.{Lane, wait_record, combined_entry}
-use Rattle.ultra_switch.specs.Queues.{request_of}
-use Rattle.ultra_mem.specs.declared.Placed.{Placed}
-use Rattle.ultra_mem.specs.Serve.{ModuleState}
-use Rattle.ultra_model.specs.Places.{table, joined}
+use Rattle.ultra_switch.specs.{declared.{QueueEntry.QueueEntry, WaitRecord.WaitRecord}, Arrive.{Lane, wait_record, combined_entry}, Queues.request_of}
+use Rattle.ultra_mem.specs.{declared.Placed.Placed, Serve.ModuleState}
+use Rattle.ultra_model.specs.{Places.{table, joined}, Ranges.AreInRange}
 use Rattle.ultra_model.specs.Machine.{Settings, Machine, size, last_stage, lane_at, replies_at, module_at, element_at, request_exit}
 use Rattle.ultra_model.specs.Phases.{combinations, has_request_room, request_before, admitted, arriving_request, entering, with_request, leaving_request, requests_by, arrivals, lane_after_leaving, next_lane, request_phase}
-use Rattle.ultra_model.specs.Ranges.{AreInRange}
 use Rattle.ultra_model.specs.Routed.{IsEntryAt, IsRecordAt, IsReplyAt, IsPlacedAt, IsReplyOf, IsOwn, IsRouted}
 use Rattle.ultra_model.specs.Balance.{count, total, passes, reply_passes, entry_passes, record_passes, lane_on_way, replies_on_way, module_on_way, pending_on_way, on_way, IsBalanced}
-use Rattle.ultra_model.proofs.Each.{each-append, each-after_leaving, each-first, if_tested}
-use Rattle.ultra_model.proofs.OnRoute.{some-request}
-use Rattle.ultra_model.proofs.Sums.{total_next, total_term, table_same, table_plus, table_term}
-use Rattle.ultra_model.proofs.Counting.{is_reference, arrive_all_way}
-use Rattle.ultra_model.proofs.ReplyBalance.{opened_once}
-use Rattle.ultra_model.proofs.Routes.{routed-request_phase, turns_back, two_ports}
+use Rattle.ultra_model.proofs.{Each.{each-append, each-after_leaving, each-first, if_tested}, OnRoute.some-request, Sums.{total_next, total_term, table_same, table_plus, table_term}, Counting.{is_reference, arrive_all_way}, ReplyBalance.opened_once, Routes.{routed-request_phase, turns_back, two_ports}, AtPlaces.{lane-request_phase, memory_module-request_phase, element-request_phase}}
 use Rattle.ultra_model.proofs.RequestBalance as requests
-use Rattle.ultra_model.proofs.AtPlaces.{lane-request_phase, memory_module-request_phase, element-request_phase}
-use Rattle.ultra_serial_law.specs.Tree.{pair, Kept}
-use Rattle.ultra_serial_law.specs.Log.{LoggedIssue}
-use Rattle.ultra_serial_law.specs.Legal.{Entry as Done}
-use Rattle.ultra_serial_law.proofs.Series.{sent}
+use Rattle.ultra_serial_law.specs.{Tree.{pair, Kept}, Log.LoggedIssue, Legal.Entry as Done}
+use Rattle.ultra_serial_law.proofs.{Series.sent, ReplyForest.{each_and, some_and}}
 use Rattle.ultra_serial_law.proofs.Tidy.{old_records, is_marked, marked_in, lanes_of, IsTidy, that_is, arrive_all_marks, tidy-request_phase}
 use Rattle.ultra_serial_law.proofs.Forest.{find_record, record_at, position_of, built, built_next, built_clear, grown, same_built, found_record, found_partner}
 use Rattle.ultra_serial_law.proofs.Standing.{each_in, some_in, total_both, marked_within, marked_lanes, IsBelow, below_lane, below_stage, below_pending, once, clear, position_small}
 use Rattle.ultra_serial_law.proofs.Explained.{IsIn, IsExplained, bound, IsKept, IsKeptAt, IsAnswered, IsGiven, IsForest}
-use Rattle.ultra_serial_law.proofs.ReplyForest.{each_and, some_and}
 use Rattle.ultra_serial_law.proofs.Mentions.{mention, mentions, sum-table, in-table, trees_noted, unmentioned, combined_tree}
 use Rattle.ultra_serial_law.proofs.LaneForest.{unmarked_in, is_unmarked, marked_unmarked, lane_mentions, same_find, find_unique, in_counts, HadCombined, IsSaid, lane_said, lane_given}
 

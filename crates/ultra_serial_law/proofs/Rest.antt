@@ -1,29 +1,18 @@
 -- in the cycles of a machine that is quiet nothing happens: its history stays as it is
 use Rattle.std.proofs.Common.{◌≡◌, ℕ, zero, suc, ◌+◌, ◌-◌, ◌*◌, ◌/◌, ◌%◌, ◌<◌, ◌≤◌, ◌⊎◌, List, [], ◌∷◌, ◌++◌, Bool, true, false, ◌&&◌, ◌==◌, refl, sym, ap, subst, ◌∙◌, arith, inl, inr, ⊎_elim, length, Option, Some, None}
-use Rattle.std.specs.Prelude.{map, slice_get, slice_index_or}
-use Rattle.std.specs.List.{AllByRecursion, list_all, range_with_len}
+use Rattle.std.specs.{Prelude.{map, slice_get, slice_index_or}, List.{AllByRecursion, list_all, range_with_len}}
 use Rattle.std.proofs.lemmas.Bool.{cases_eq}
-use Rattle.ultra_msg.specs.declared.Event.{Event}
-use Rattle.ultra_msg.specs.declared.Request.{Request}
-use Rattle.ultra_msg.specs.declared.ReplyMessage.{ReplyMessage}
+use Rattle.ultra_msg.specs.declared.{Event.Event, Request.Request, ReplyMessage.ReplyMessage}
 use Rattle.ultra_route.specs.Route.{shuffled, unshuffled}
-use Rattle.ultra_switch.specs.Arrive.{Lane, empty_lane}
-use Rattle.ultra_switch.specs.Queues.{request_of}
-use Rattle.ultra_mem.specs.declared.Placed.{Placed}
-use Rattle.ultra_mem.specs.Serve.{ModuleState, empty_module, IsIdle, serve, served}
+use Rattle.ultra_switch.specs.{Arrive.{Lane, empty_lane}, Queues.request_of}
+use Rattle.ultra_mem.specs.{declared.Placed.Placed, Serve.{ModuleState, empty_module, IsIdle, serve, served}}
 use Rattle.ultra_pni.specs.Interface.{Interface, empty_interface}
-use Rattle.ultra_isa.specs.declared.Instr.{Instr}
-use Rattle.ultra_isa.specs.declared.Activity.{Activity}
-use Rattle.ultra_isa.specs.declared.Activity.TheVariants.{Running, Halted, Faulted}
+use Rattle.ultra_isa.specs.{declared.{Instr.Instr, Activity.{Activity, TheVariants.{Running, Halted, Faulted}}}, Instruction.Site, Step.{Core, stays, has_stopped, runs_as}}
 use Rattle.ultra_isa.specs.declared.Step.TheVariants as step
-use Rattle.ultra_isa.specs.Instruction.{Site}
-use Rattle.ultra_isa.specs.Step.{Core, stays, has_stopped, runs_as}
 use Rattle.ultra_model.specs.Places.{places, table, in_table, present, joined}
 use Rattle.ultra_model.specs.Machine.{Settings, Machine, Element, fresh_element, size, site, last_stage, start, lane_at, replies_at, module_at, element_at, is_empty, is_nothing, is_quiet}
 use Rattle.ultra_model.specs.Phases.{delivery, serving, issue_event, combinations, has_reply_room, reply_before, arriving_reply, leaving_reply, replies_at_exit, next_replies, lane_after_split, delivered, without_reply, deliver, request_before, arriving_request, entering, with_request, leaving_request, arrivals_by, arrivals, lane_after_leaving, next_lane, without_pending, step_at, stepped, reply_phase, memory_phase, request_phase, processor_phase, cycle, after}
-use Rattle.ultra_model.proofs.Each.{each-places, each-joined, if_tested, length-places}
-use Rattle.ultra_model.proofs.Counting.{both_true}
-use Rattle.ultra_model.proofs.AtPlaces.{element-reply_phase, element-request_phase, element-processor_phase}
+use Rattle.ultra_model.proofs.{Each.{each-places, each-joined, if_tested, length-places}, Counting.both_true, AtPlaces.{element-reply_phase, element-request_phase, element-processor_phase}}
 use Rattle.ultra_serial_law.specs.SerialList.{noted, history}
 
 -- ---- tests

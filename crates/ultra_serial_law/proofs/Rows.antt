@@ -1,16 +1,11 @@
 -- worked orders: what the requests of small runs did, in order
 use Rattle.std.specs.Prelude.{◌≡◌, ℕ, [], ◌∷◌, refl}
-use Rattle.ultra_msg.specs.declared.Op.{Op}
-use Rattle.ultra_msg.specs.declared.Op.TheVariants.{Load, Store, Faa}
-use Rattle.ultra_msg.specs.declared.Reply.{Reply}
-use Rattle.ultra_msg.specs.declared.Reply.TheVariants.{Value, Ack}
-use Rattle.ultra_model.specs.Places.{places}
-use Rattle.ultra_model.specs.Machine.{start}
+use Rattle.ultra_msg.specs.declared.{Op.{Op, TheVariants.{Load, Store, Faa}}, Reply.{Reply, TheVariants.{Value, Ack}}}
+use Rattle.ultra_model.specs.{Places.places, Machine.start}
 use Rattle.ultra_model.specs.Phases.{after, cycle, reply_phase, memory_phase, request_phase, processor_phase, arriving_reply, arriving_request}
 use Rattle.ultra_model.proofs.Pairs.{one_stage, add_one, five_at_first, load_and_store, add_and_store, store_and_add}
 use Rattle.ultra_model.proofs.Levels.{two_stages, add_number}
-use Rattle.ultra_serial_law.specs.Legal.{Entry}
-use Rattle.ultra_serial_law.specs.SerialList.{history, serial_list}
+use Rattle.ultra_serial_law.specs.{Legal.Entry, SerialList.{history, serial_list}}
 
 -- the request of this processing element and number, with its cell, operation and reply
 abbrev pub done : ℕ → ℕ → ℕ → Op → Reply → Entry

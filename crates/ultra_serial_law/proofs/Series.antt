@@ -1,9 +1,6 @@
 -- the law of trees: acting with what a tree sends is acting with its leaves in serial order, and the replies made of its reply are theirs
 use Rattle.std.proofs.Common.{◌≡◌, ℕ, List, [], ◌∷◌, ◌++◌, Bool, true, false, refl, ap, ◌∙◌, sym}
-use Rattle.ultra_msg.specs.declared.Op.{Op}
-use Rattle.ultra_msg.specs.declared.Reply.{Reply}
-use Rattle.ultra_msg.specs.Act.{act, reply_given}
-use Rattle.ultra_msg.specs.Pair.{pair_of, KeepsBoth}
+use Rattle.ultra_msg.specs.{declared.{Op.Op, Reply.Reply}, Act.{act, reply_given}, Pair.{pair_of, KeepsBoth}}
 use Rattle.ultra_msg.proofs.Pairs.{pair_keeps}
 use Rattle.ultra_serial_law.specs.Tree.{Tree, leaf, pair, NamedRequest, leaves}
 

@@ -1,25 +1,15 @@
 -- the trees of a machine's requests are no higher than the stages, and have at most one leaf of each processing element
 use Rattle.std.proofs.Common.{◌≡◌, ℕ, zero, suc, ◌+◌, ◌*◌, ◌^◌, ◌≤◌, List, length, Bool, true, false, refl, arith, sym, ◌∙◌, ap, length-append}
-use Rattle.std.specs.Prelude.{Option, Some, None, slice_get}
-use Rattle.std.specs.List.{AllByRecursion}
+use Rattle.std.specs.{Prelude.{Option, Some, None, slice_get}, List.AllByRecursion}
 use Rattle.std.proofs.Math.Nat.{pow-suc}
 use Rattle.ultra_msg.specs.Pair.{pair_of}
 use Rattle.ultra_switch.specs.declared.WaitRecord.{WaitRecord}
-use Rattle.ultra_model.specs.Machine.{Settings, Machine}
-use Rattle.ultra_model.specs.Balance.{count}
+use Rattle.ultra_model.specs.{Machine.{Settings, Machine}, Balance.count}
 use Rattle.ultra_model.proofs.Each.{each-append}
 use Rattle.ultra_serial_law.specs.Tree.{Tree, pair, NamedRequest, leaves, height, Kept, tree_of, leaves_of}
-use Rattle.ultra_serial_law.specs.Log.{LoggedIssue, latest_number}
-use Rattle.ultra_serial_law.specs.SerialList.{History}
-use Rattle.ultra_serial_law.specs.Explicable.{IsOfMachine}
-use Rattle.ultra_serial_law.proofs.Series.{sent}
-use Rattle.ultra_serial_law.proofs.Tidy.{that_is}
+use Rattle.ultra_serial_law.specs.{Log.{LoggedIssue, latest_number}, SerialList.History, Explicable.IsOfMachine}
+use Rattle.ultra_serial_law.proofs.{Series.sent, Tidy.that_is, Mentions.sum_of, Named.{tree_leaves, taken}, Issued.{is_named, IsRecorded}, Lists.{in_has, one_place}, RequestForest.in_holds}
 use Rattle.ultra_serial_law.proofs.Forest.{leaf_of, grown, built, built_leaf, built_next, position_of, record_at}
-use Rattle.ultra_serial_law.proofs.Mentions.{sum_of}
-use Rattle.ultra_serial_law.proofs.Named.{tree_leaves, taken}
-use Rattle.ultra_serial_law.proofs.Issued.{is_named, IsRecorded}
-use Rattle.ultra_serial_law.proofs.Lists.{in_has, one_place}
-use Rattle.ultra_serial_law.proofs.RequestForest.{in_holds}
 
 pair_length : (s x : ℕ) (o n : Tree) (f : Bool) → length (leaves (pair s x o n f)) ≡ length (leaves o) + length (leaves n)
 pair_length s x o n true = length-append (leaves o) (leaves n)

@@ -1,17 +1,12 @@
 -- where a message is, there is no record of its reference from there on, and no other message of it
 -- anywhere
 use Rattle.std.proofs.Common.{◌≡◌, ◌≢◌, ℕ, zero, suc, ◌+◌, ◌<◌, ◌≤◌, List, [], ◌∷◌, Bool, true, arith, ap, ⊎_elim}
-use Rattle.std.specs.Prelude.{Option, Some, None, IfSome}
-use Rattle.std.specs.List.{AllByRecursion}
+use Rattle.std.specs.{Prelude.{Option, Some, None, IfSome}, List.AllByRecursion}
 use Rattle.std.proofs.lemmas.Bool.{cases_lt}
 use Rattle.ultra_switch.specs.declared.QueueEntry.{QueueEntry}
-use Rattle.ultra_model.specs.Machine.{Settings, Machine, size, lane_at}
-use Rattle.ultra_model.specs.Ranges.{AreInRange}
+use Rattle.ultra_model.specs.{Machine.{Settings, Machine, size, lane_at}, Ranges.AreInRange}
 use Rattle.ultra_model.specs.Balance.{count, count_option, total, entry_passes, lane_on_way, on_way, IsBalanced}
-use Rattle.ultra_model.proofs.Sums.{total_next, total_term}
-use Rattle.ultra_model.proofs.Counting.{is_reference}
-use Rattle.ultra_model.proofs.ReplyBalance.{opened_once}
-use Rattle.ultra_model.proofs.Routes.{route}
+use Rattle.ultra_model.proofs.{Sums.{total_next, total_term}, Counting.is_reference, ReplyBalance.opened_once, Routes.route}
 use Rattle.ultra_serial_law.proofs.Tidy.{marked_in, lanes_of, marked_of, pending_of, up_to, IsTidy, total_gain, total_most, marked_weight}
 use Rattle.ultra_serial_law.proofs.Forest.{record_at, position_of, find_none}
 

@@ -2,18 +2,11 @@
 use Rattle.std.proofs.Common.{◌≡◌, ◌≢◌, ℕ, List, [], ◌∷◌, ◌++◌, Bool, true, false, refl, sym, subst, ◌∙◌, ap, append_assoc}
 use Rattle.std.specs.Prelude.{Option, Some, None, IfSome, ◌==◌, ◌&&◌, if◌then◌else◌}
 use Rattle.std.specs.List.{AllByRecursion}
-use Rattle.std.proofs.lemmas.List.{append-nil}
-use Rattle.std.proofs.lemmas.Bool.{eqb-true}
-use Rattle.ultra_msg.specs.declared.Request.{Request}
-use Rattle.ultra_msg.specs.declared.ReplyMessage.{ReplyMessage}
-use Rattle.ultra_msg.specs.declared.Event.{Event}
-use Rattle.ultra_msg.specs.declared.Event.TheVariants.{Delivered, Served, Combined, Issued}
+use Rattle.std.proofs.lemmas.{List.append-nil, Bool.eqb-true}
+use Rattle.ultra_msg.specs.declared.{Request.Request, ReplyMessage.ReplyMessage, Event.{Event, TheVariants.{Delivered, Served, Combined, Issued}}}
 use Rattle.ultra_mem.specs.declared.Served.{Served as Act}
-use Rattle.ultra_model.specs.Places.{places, present}
-use Rattle.ultra_model.specs.Phases.{delivery, serving}
-use Rattle.ultra_model.proofs.Each.{each-present, each-places}
-use Rattle.ultra_model.proofs.Counting.{both_true}
-use Rattle.ultra_model.proofs.Neighbours.{itself, other}
+use Rattle.ultra_model.specs.{Places.{places, present}, Phases.{delivery, serving}}
+use Rattle.ultra_model.proofs.{Each.{each-present, each-places}, Counting.both_true, Neighbours.{itself, other}}
 use Rattle.ultra_hot_spot.specs.AllAtOnce.{acts_on}
 use Rattle.ultra_serial_law.specs.Tree.{Tree, Kept, is_under, tree_of, without, trees_after}
 use Rattle.ultra_serial_law.specs.HotSpot.{tree_list, tree_taken, trees_taken}

@@ -4,27 +4,17 @@ use Rattle.std.proofs.Common.{◌≡◌, ℕ, zero, suc, ◌+◌, ◌-◌, ◌<�
 use Rattle.std.specs.Prelude.{Option, Some, None, IfSome, slice_get, ◌==◌, ◌&&◌, not, nat_lt}
 use Rattle.std.specs.List.{AllByRecursion}
 use Rattle.std.proofs.lemmas.Bool.{eqb-true, cases_lt, cases_Bool}
-use Rattle.ultra_msg.specs.declared.Request.{Request}
-use Rattle.ultra_msg.specs.declared.ReplyMessage.{ReplyMessage}
+use Rattle.ultra_msg.specs.declared.{Request.Request, ReplyMessage.ReplyMessage}
 use Rattle.ultra_route.specs.Route.{line_of}
-use Rattle.ultra_switch.specs.declared.QueueEntry.{QueueEntry}
-use Rattle.ultra_switch.specs.declared.WaitRecord.{WaitRecord}
+use Rattle.ultra_switch.specs.{declared.{QueueEntry.QueueEntry, WaitRecord.WaitRecord}, Split.{is_of, records_after}, Queues.request_of}
 use Rattle.ultra_switch.specs.Arrive.{Lane, Combination, entry, behind, can_combine, wait_record, combined_entry, combine, combine_within, after_arrival, arrive}
-use Rattle.ultra_switch.specs.Split.{is_of, records_after}
-use Rattle.ultra_switch.specs.Queues.{request_of}
 use Rattle.ultra_isa.specs.declared.Instr.{Instr}
-use Rattle.ultra_model.specs.Places.{after_leaving}
+use Rattle.ultra_model.specs.{Places.after_leaving, Ranges.AreInRange, Routed.{IsByLine, IsRecordAt, module_of, IsRouted}}
 use Rattle.ultra_model.specs.Machine.{Settings, Machine, size, lane_at, replies_at, element_at, start}
 use Rattle.ultra_model.specs.Phases.{records_left, arrive_all, arriving_reply, delivered, reply_phase, memory_phase, request_phase, processor_phase, leaving_request, lane_after_leaving, arrivals, next_lane}
-use Rattle.ultra_model.specs.Ranges.{AreInRange}
-use Rattle.ultra_model.specs.Routed.{IsByLine, IsRecordAt, module_of, IsRouted}
 use Rattle.ultra_model.specs.Balance.{weight, count, count_option, total, passes, reply_passes, lane_on_way, replies_on_way, pending_on_way, on_way, all_opened, IsBalanced}
-use Rattle.ultra_model.proofs.Each.{if_tested}
+use Rattle.ultra_model.proofs.{Each.if_tested, Counting.{both_true, is_reference, count-append}, Neighbours.itself, Routes.arriving_reply_well, AtPlaces.{lane-start, lane-reply_phase, lane-request_phase}}
 use Rattle.ultra_model.proofs.Sums.{total_none, total_next, total_same, total_plus, total_only, total_halves}
-use Rattle.ultra_model.proofs.Counting.{both_true, is_reference, count-append}
-use Rattle.ultra_model.proofs.Neighbours.{itself}
-use Rattle.ultra_model.proofs.Routes.{arriving_reply_well}
-use Rattle.ultra_model.proofs.AtPlaces.{lane-start, lane-reply_phase, lane-request_phase}
 use Rattle.ultra_model.proofs.ReplyBalance as replies
 use Rattle.ultra_model.proofs.RequestBalance as requests
 use Rattle.ultra_model.proofs.Balanced as balanced

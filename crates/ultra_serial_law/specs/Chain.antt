@@ -2,12 +2,8 @@
 use Rattle.std.specs.Prelude.{◌≡◌, ℕ, ◌+◌, List}
 use Rattle.ultra_msg.specs.Bytes.{IsPrefix}
 use Rattle.ultra_isa.specs.declared.Instr.{Instr}
-use Rattle.ultra_model.specs.Machine.{Settings}
-use Rattle.ultra_model.specs.Phases.{after}
-use Rattle.ultra_model.specs.Ranges.{AreInRange}
-use Rattle.ultra_model.specs.Trace.{cell_value, cycle_count}
-use Rattle.ultra_serial_law.specs.Legal.{given, IsLegal}
-use Rattle.ultra_serial_law.specs.SerialList.{history, serial_list}
+use Rattle.ultra_model.specs.{Machine.Settings, Phases.after, Ranges.AreInRange, Trace.{cell_value, cycle_count}}
+use Rattle.ultra_serial_law.specs.{Legal.{given, IsLegal}, SerialList.{history, serial_list}}
 
 -- each list is a prefix of the next, and legal for the log and the cells of its cycle. The list of
 -- the cycles that the trace has is that of all cycles that the settings allow

@@ -1,15 +1,10 @@
 -- which events the trees that are kept can absorb, and that they can absorb those of every run
 use Rattle.std.specs.Prelude.{◌≡◌, ◌≢◌, ◌<◌, ◌≤◌, ◌+◌, ◌==◌, ℕ, List, [], ◌∷◌, ◌++◌, length, map, Option, Some, None, IsSome, IfSome, slice_get}
-use Rattle.ultra_msg.specs.declared.Event.{Event}
-use Rattle.ultra_msg.specs.declared.Event.TheVariants.{Delivered, Served, Combined, Issued}
+use Rattle.ultra_msg.specs.declared.Event.{Event, TheVariants.{Delivered, Served, Combined, Issued}}
 use Rattle.ultra_isa.specs.declared.Instr.{Instr}
-use Rattle.ultra_model.specs.Machine.{Settings, size}
-use Rattle.ultra_model.specs.Phases.{after}
-use Rattle.ultra_model.specs.Ranges.{AreInRange}
+use Rattle.ultra_model.specs.{Machine.{Settings, size}, Phases.after, Ranges.AreInRange, Balance.weight}
 use Rattle.ultra_serial_law.specs.Tree.{Tree, NamedRequest, leaves, height, Kept, tree_of, trees_after, leaves_of}
-use Rattle.ultra_serial_law.specs.Legal.{Entry, leaf_of_entry}
-use Rattle.ultra_serial_law.specs.SerialList.{history, serial_list}
-use Rattle.ultra_model.specs.Balance.{weight}
+use Rattle.ultra_serial_law.specs.{Legal.{Entry, leaf_of_entry}, SerialList.{history, serial_list}}
 
 -- how many of the trees are those of requests of a processing element
 abbrev pub held_by : ℕ → List Kept → ℕ

@@ -1,17 +1,12 @@
 -- the tree of the act that serves all processing elements at once
 use Rattle.std.specs.Prelude.{◌≡◌, ◌<◌, ◌≤◌, ◌+◌, ℕ, List, [], ◌∷◌, ◌++◌, Option, Some, None, ◌==◌, if◌then◌else◌, length, map}
 use Rattle.std.specs.List.{Contains}
-use Rattle.ultra_msg.specs.declared.Request.{Request}
-use Rattle.ultra_msg.specs.declared.Event.{Event}
-use Rattle.ultra_msg.specs.declared.Event.TheVariants.{Delivered, Served, Combined, Issued}
+use Rattle.ultra_msg.specs.declared.{Request.Request, Event.{Event, TheVariants.{Delivered, Served, Combined, Issued}}}
 use Rattle.ultra_isa.specs.declared.Instr.{Instr}
-use Rattle.ultra_model.specs.Machine.{Settings, size}
-use Rattle.ultra_model.specs.Phases.{after}
-use Rattle.ultra_model.specs.Ranges.{AreInRange}
+use Rattle.ultra_model.specs.{Machine.{Settings, size}, Phases.after, Ranges.AreInRange}
 use Rattle.ultra_hot_spot.specs.AllAtOnce.{AreAllAt, AreServedAtOnce, later_events}
-use Rattle.ultra_serial_law.specs.declared.records.NamedRequest.{NamedRequest}
+use Rattle.ultra_serial_law.specs.{declared.records.NamedRequest.NamedRequest, SerialList.history}
 use Rattle.ultra_serial_law.specs.Tree.{Tree, Kept, leaves, height, tree_of, trees_after}
-use Rattle.ultra_serial_law.specs.SerialList.{history}
 
 -- the tree, if there is one
 abbrev pub tree_list : Option Tree → List Tree

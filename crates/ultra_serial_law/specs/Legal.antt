@@ -1,11 +1,9 @@
 -- what it is for a list of requests to explain what a machine did: the serialization principle of
 -- the 1983 paper. It knows no network, and of operations only what they do to a cell
 use Rattle.std.specs.Prelude.{◌≡◌, ◌<◌, ℕ, List, [], ◌∷◌, map, true, false, ◌==◌, Some, slice_get}
-use Rattle.ultra_msg.specs.declared.Reply.{Reply}
-use Rattle.ultra_msg.specs.Act.{act}
-use Rattle.ultra_serial_law.specs.Tree.{NamedRequest}
+use Rattle.ultra_msg.specs.{declared.Reply.Reply, Act.act}
+use Rattle.ultra_serial_law.specs.{Tree.NamedRequest, Log.{LoggedIssue, LoggedAnswer, Log}}
 pub use Rattle.ultra_serial_law.specs.declared.records.Entry.{Entry}
-use Rattle.ultra_serial_law.specs.Log.{LoggedIssue, LoggedAnswer, Log}
 
 -- the request of an entry, and a request with its reply
 abbrev pub leaf_of_entry : Entry → NamedRequest

@@ -1,9 +1,7 @@
 -- what a machine issued and answered, with names and cycles
 use Rattle.std.specs.Prelude.{ℕ, List, [], ◌∷◌, ◌++◌, Bool, true, false, ◌&&◌, ◌==◌}
-use Rattle.ultra_msg.specs.declared.Event.{Event}
-use Rattle.ultra_msg.specs.declared.Event.TheVariants.{Delivered, Served, Combined, Issued}
-pub use Rattle.ultra_serial_law.specs.declared.records.LoggedIssue.{LoggedIssue}
-pub use Rattle.ultra_serial_law.specs.declared.records.LoggedAnswer.{LoggedAnswer}
+use Rattle.ultra_msg.specs.declared.Event.{Event, TheVariants.{Delivered, Served, Combined, Issued}}
+pub use Rattle.ultra_serial_law.specs.declared.records.{LoggedIssue.LoggedIssue, LoggedAnswer.LoggedAnswer}
 use Rattle.ultra_serial_law.specs.declared.records.Log as program
 
 -- both by cycle, then by processing element

@@ -1,15 +1,9 @@
 -- the replies that a run delivers, and that they are the answers of its log
 use Rattle.std.specs.Prelude.{◌≡◌, ◌<◌, ℕ, zero, suc, List, [], ◌∷◌, ◌++◌}
-use Rattle.ultra_msg.specs.declared.ReplyMessage.{ReplyMessage}
-use Rattle.ultra_msg.specs.declared.Event.{Event}
-use Rattle.ultra_msg.specs.declared.Event.TheVariants.{Delivered, Served, Combined, Issued}
+use Rattle.ultra_msg.specs.declared.{ReplyMessage.ReplyMessage, Event.{Event, TheVariants.{Delivered, Served, Combined, Issued}}}
 use Rattle.ultra_isa.specs.declared.Instr.{Instr}
-use Rattle.ultra_model.specs.Machine.{Settings}
-use Rattle.ultra_model.specs.Phases.{after}
-use Rattle.ultra_model.specs.Ranges.{AreInRange}
-use Rattle.ultra_serial_law.specs.Log.{LoggedIssue, LoggedAnswer}
-use Rattle.ultra_serial_law.specs.Legal.{Has}
-use Rattle.ultra_serial_law.specs.SerialList.{history}
+use Rattle.ultra_model.specs.{Machine.Settings, Phases.after, Ranges.AreInRange}
+use Rattle.ultra_serial_law.specs.{Log.{LoggedIssue, LoggedAnswer}, Legal.Has, SerialList.history}
 
 -- a reply came to its processing element in a cycle
 pub record Delivery : Type 0 where

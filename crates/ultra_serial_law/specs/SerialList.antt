@@ -3,11 +3,8 @@
 use Rattle.std.specs.Prelude.{ℕ, zero, suc, List, [], ◌∷◌, ◌++◌}
 use Rattle.ultra_msg.specs.declared.Event.{Event}
 use Rattle.ultra_isa.specs.declared.Instr.{Instr}
-use Rattle.ultra_model.specs.Machine.{Settings}
-use Rattle.ultra_model.specs.Phases.{after}
-use Rattle.ultra_serial_law.specs.Tree.{NamedRequest, Kept, trees_after, served_leaves}
-use Rattle.ultra_serial_law.specs.Log.{Log, empty_log, logged}
-use Rattle.ultra_serial_law.specs.Legal.{Entry, given, replayed}
+use Rattle.ultra_model.specs.{Machine.Settings, Phases.after}
+use Rattle.ultra_serial_law.specs.{Tree.{NamedRequest, Kept, trees_after, served_leaves}, Log.{Log, empty_log, logged}, Legal.{Entry, given, replayed}}
 
 -- what a run leaves behind: the trees that are kept, the requests that were served, in order, and
 -- the log

@@ -1,7 +1,6 @@
 -- the trees of combined requests, as the events of a machine make them
 use Rattle.std.specs.Prelude.{ℕ, ◌+◌, List, [], ◌∷◌, ◌++◌, Bool, true, false, ◌&&◌, ◌==◌, Option, Some, None, max}
-use Rattle.ultra_msg.specs.declared.Event.{Event}
-use Rattle.ultra_msg.specs.declared.Event.TheVariants.{Delivered, Served, Combined, Issued}
+use Rattle.ultra_msg.specs.declared.Event.{Event, TheVariants.{Delivered, Served, Combined, Issued}}
 pub use Rattle.ultra_serial_law.specs.declared.records.NamedRequest.{NamedRequest}
 
 -- a request as it was issued, or two trees that met at a stage and position, and whether the old

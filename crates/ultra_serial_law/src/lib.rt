@@ -6,10 +6,7 @@
 
 mod records;
 
-ghost use Rattle.ultra_serial_law.specs.Chain.{SerializationLaw};
-ghost use Rattle.ultra_serial_law.specs.Explicable.{ExplainingLaw};
-ghost use Rattle.ultra_serial_law.specs.HotSpot.{HotSpotLaw};
-ghost use Rattle.ultra_serial_law.specs.Replies.{ReplyLaw};
+ghost use Rattle.ultra_serial_law.specs.{Chain.SerializationLaw, Explicable.ExplainingLaw, HotSpot.HotSpotLaw, Replies.ReplyLaw};
 
 pub use records::{Entry, Log, LoggedAnswer, LoggedIssue, NamedRequest, SerialList};
 

@@ -1,11 +1,8 @@
 -- what a table of jobs gives
 use Rattle.std.proofs.Common.{◌≡◌, ℕ, ◌<◌, ◌≤◌, Bool, true, false, not, ◌||◌, List, [], ◌∷◌, ◌++◌, length, Option, Some, None, String, Global, string_bytes, refl, ap, arith, codes, option_map}
-use Rattle.std.specs.List.{list_any}
-use Rattle.std.specs.Map.{keys_of}
+use Rattle.std.specs.{List.list_any, Map.keys_of}
 use Rattle.std.proofs.lemmas.Bool.Decides.{nat_tests}
-use Rattle.toml.specs.declared.value.Value.{Value}
-use Rattle.toml.specs.View.{items_view, members_view}
-use Rattle.toml.specs.Data.{Data, Items, Members, as_table}
+use Rattle.toml.specs.{declared.value.Value.Value, View.{items_view, members_view}, Data.{Data, Items, Members, as_table}}
 use Rattle.ultra_settings.specs.JobsText.{Paths, is_file_key, is_job_key, has_other_key, text_at, paths_of, job_count, paths_in, jobs_in, array_at, jobs_at}
 
 pub has_other_key-keys : (is_key : List ℕ → Bool) (es : List (String Global × Value)) → has_other_key is_key (members_view es) ≡ list_any (λ k. not (is_key (string_bytes k))) (keys_of es)

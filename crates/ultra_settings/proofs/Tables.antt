@@ -1,9 +1,7 @@
 -- what a table gives
 use Rattle.std.proofs.Common.{◌≡◌, ℤ, ◌<◌, ◌≤◌, not, ◌||◌, List, [], ◌∷◌, ◌++◌, length, Option, None, String, Global, string_bytes, refl, ap, arith, option_map}
-use Rattle.std.specs.List.{list_any}
-use Rattle.std.specs.Map.{keys_of}
-use Rattle.toml.specs.declared.value.Value.{Value}
-use Rattle.toml.specs.View.{items_view, members_view}
+use Rattle.std.specs.{List.list_any, Map.keys_of}
+use Rattle.toml.specs.{declared.value.Value.Value, View.{items_view, members_view}}
 use Rattle.ultra_settings.specs.SettingsText.{pair_in, is_key, has_unknown_key}
 
 -- an array that hasn't just two values is no pair

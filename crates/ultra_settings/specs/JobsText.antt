@@ -1,12 +1,10 @@
 -- what the text of a file of jobs gives: its keys and the kinds of their values are this project's
 -- profile
 use Rattle.std.specs.Prelude.{◌≡◌, ℕ, ◌+◌, Bool, false, not, ◌&&◌, ◌||◌, nat_le, if◌then◌else◌, List, [], ◌∷◌, Option, Some, None, IsSomeAnd, String, string_bytes, codes, bytes_eq, map, option_map, option_and_then, ⊤}
-use Rattle.std.specs.Str.{IsUtf8}
-use Rattle.std.specs.declared.alloc.Global.{Global}
+use Rattle.std.specs.{Str.IsUtf8, declared.alloc.Global.Global}
 use Rattle.toml.specs.Data.{Data, Items, no_items, item, Members, no_members, member, get_member, as_str, as_array, as_table}
 use Rattle.toml.specs.Parse.{parse_document}
-use Rattle.ultra_settings.specs.declared.jobs.JobsFault.{JobsFault}
-use Rattle.ultra_settings.specs.declared.jobs.JobsFault.TheVariants.{NoMemory, NotToml, BadJob}
+use Rattle.ultra_settings.specs.declared.jobs.JobsFault.{JobsFault, TheVariants.{NoMemory, NotToml, BadJob}}
 
 -- the paths of a job: of its settings and of its program
 abbrev pub Paths : Type 0

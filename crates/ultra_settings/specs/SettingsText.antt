@@ -1,16 +1,12 @@
 -- what the text of some settings gives: the keys, the kinds of their values and their defaults are
 -- this project's profile
 use Rattle.std.specs.Prelude.{◌≡◌, ℕ, ℤ, pos, Bool, true, false, not, ◌||◌, List, ◌++◌, [], ◌∷◌, bytes_eq, option_map, option_and_then, Option, Some, None, IsSomeAnd, ⊤}
-use Rattle.std.specs.List.{list_any}
-use Rattle.std.specs.Str.{IsUtf8}
+use Rattle.std.specs.{List.list_any, Str.IsUtf8}
 use Rattle.toml.specs.Data.{Data, Items, no_items, item, Members, no_members, member, get_member, as_integer, as_array}
 use Rattle.toml.specs.Parse.{parse_document}
-use Rattle.ultra_model.specs.declared.config.RawSettings.{RawSettings}
-use Rattle.ultra_model.specs.declared.config.Field.{Field}
+use Rattle.ultra_model.specs.{declared.config.{RawSettings.RawSettings, Field.Field}, Accepted.{name_of, single_number_keys, first_bad}}
 use Rattle.ultra_model.specs.declared.config.Field.TheVariants.{Stages, RequestPlaces, ReplyPlaces, WaitPlaces, MostOpen, Cells, Cycles, Initial}
-use Rattle.ultra_settings.specs.declared.settings.SettingsFault.{SettingsFault}
-use Rattle.ultra_settings.specs.declared.settings.SettingsFault.TheVariants.{NoMemory, NotToml, BadField, UnknownKey}
-use Rattle.ultra_model.specs.Accepted.{name_of, single_number_keys, first_bad}
+use Rattle.ultra_settings.specs.declared.settings.SettingsFault.{SettingsFault, TheVariants.{NoMemory, NotToml, BadField, UnknownKey}}
 
 -- all keys
 abbrev pub fields : List Field

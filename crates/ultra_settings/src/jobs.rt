@@ -1,9 +1,7 @@
 //! The text of a file of jobs, which is TOML. Keys and kinds are this project's profile.
 
 ghost use Rattle.std.specs.Prelude.{◌≡◌, not, IfOk, IfErr, option_map, string_bytes};
-ghost use Rattle.std.specs.Option.{option_copied};
-ghost use Rattle.std.specs.List.{list_any};
-ghost use Rattle.std.specs.BTreeMap.{keys};
+ghost use Rattle.std.specs.{Option.option_copied, List.list_any, BTreeMap.keys};
 ghost use Rattle.toml.specs.View.{view, items_view, table_view};
 ghost use Rattle.ultra_settings.specs.JobsText.{all_paths, Gives, ExplainsJobsFault, is_file_key, is_job_key, text_at, paths_of, paths_in, jobs_in, array_at, jobs_at};
 

@@ -1,8 +1,7 @@
 //! Tables of a text in TOML.
 
 ghost use Rattle.std.specs.Prelude.{◌≡◌, option_map};
-ghost use Rattle.toml.specs.Data.{get_member};
-ghost use Rattle.toml.specs.View.{view, table_view};
+ghost use Rattle.toml.specs.{Data.get_member, View.{view, table_view}};
 
 use toml::{Table, Value};
 

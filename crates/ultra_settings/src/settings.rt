@@ -2,11 +2,9 @@
 //! project's profile.
 
 ghost use Rattle.std.specs.Prelude.{◌≡◌, false, not, None, IfOk, IfErr, option_map, string_bytes};
-ghost use Rattle.std.specs.List.{list_any};
-ghost use Rattle.std.specs.BTreeMap.{keys};
+ghost use Rattle.std.specs.{List.list_any, BTreeMap.keys};
 ghost use Rattle.toml.specs.View.{view, items_view, table_view};
-ghost use Rattle.ultra_model.specs.Accepted.{first_bad, settings_of};
-ghost use Rattle.ultra_model.specs.declared.config.RawSettings.{RawSettings};
+ghost use Rattle.ultra_model.specs.{Accepted.{first_bad, settings_of}, declared.config.RawSettings.RawSettings};
 ghost use Rattle.ultra_settings.specs.SettingsText.{given_integer, given_initial, integer_pair, pair_in, pairs_in, is_key, IsGiven, Gives, ExplainsSettingsFault};
 
 use crate::lookup::value_at;

@@ -2,12 +2,8 @@
 use Rattle.std.proofs.Common.{◌≡◌, ℕ, ◌+◌, ◌<◌, ◌≤◌, List, [], ◌∷◌, ◌++◌, length, refl, sym, ap, subst, ◌∙◌, append_assoc, length-append, get_or, arith}
 use Rattle.std.specs.Prelude.{Some, IfSome, slice_get, Contains}
 use Rattle.std.proofs.lemmas.Option.{slice_get_read}
-use Rattle.ultra_board.specs.declared.rule.View.{View}
-use Rattle.ultra_board.specs.View.{times, times_below}
-use Rattle.ultra_sweep.specs.declared.job.Job.{Job}
-use Rattle.ultra_sweep.specs.declared.job.JobResult.{JobResult}
-use Rattle.ultra_sweep.specs.Job.{job_numbers, IsOutcomeOf, IsResultOf, IsResultAmong}
-use Rattle.ultra_sweep.specs.Work.{HasDone, HasDoneAll}
+use Rattle.ultra_board.specs.{declared.rule.View.View, View.{times, times_below}}
+use Rattle.ultra_sweep.specs.{declared.job.{Job.Job, JobResult.JobResult}, Job.{job_numbers, IsOutcomeOf, IsResultOf, IsResultAmong}, Work.{HasDone, HasDoneAll}}
 use Rattle.ultra_sweep.proofs.Numbers.{room, not_in_second}
 
 -- a number more was drawn, and then finished

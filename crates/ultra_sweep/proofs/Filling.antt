@@ -1,22 +1,14 @@
 -- texts that go into their places one by one
 use Rattle.std.proofs.Common.{◌≡◌, ◌≢◌, ℕ, zero, suc, ◌+◌, ◌<◌, ◌≤◌, List, [], ◌∷◌, ◌++◌, false, length, refl, sym, ap, subst, ◌∙◌, arith, map, take, drop, get_or, set, Vec, Global, ⊎_elim}
 use Rattle.std.specs.Prelude.{Option, Some, None, IsSome, is_some, IfSome, All, replicate, slice_get}
-use Rattle.std.proofs.lemmas.Bool.{cases_eq}
+use Rattle.std.proofs.lemmas.{Bool.cases_eq, List.{Elements.{All-append, All-contains, Contains-append_left, Contains-append_right}, FromFn.length-enumerate_from}}
 use Rattle.std.proofs.lemmas.List.{get_or-set_same, get_or-set_other, length-set, get_or-replicate, length-replicate, length-map, append-nil, drop_all, take_all, ext_get_or}
-use Rattle.std.proofs.lemmas.List.Elements.{All-append, All-contains, Contains-append_left, Contains-append_right}
 use Rattle.std.specs.List.{enumerate_from}
-use Rattle.std.proofs.lemmas.List.FromFn.{length-enumerate_from}
 use Rattle.ultra_board.specs.View.{one_if, times, times_below}
 use native.Mathlib.Decide.{dec_le}
-use Rattle.ultra_sweep.specs.declared.job.Job.{Job}
-use Rattle.ultra_sweep.specs.declared.job.JobResult.{JobResult}
-use Rattle.ultra_sweep.specs.declared.job.JobOutcome.{JobOutcome}
+use Rattle.ultra_sweep.specs.{declared.{job.{Job.Job, JobResult.JobResult, JobOutcome.JobOutcome}, gathering.GatherFault.{GatherFault, TheVariants.{Double, Stranger, Missing, NoMemory}}}, Job.{job_numbers, text_in, texts_of, IsOutcomeOf, IsResultAmong}, Places.{TextPlaces, text_in_place, IsPut, ExplainsPutFault, IsFirstEmpty}}
 use Rattle.ultra_sweep.specs.declared.job.JobOutcome.TheVariants as outcome
-use Rattle.ultra_sweep.specs.declared.gathering.GatherFault.{GatherFault}
-use Rattle.ultra_sweep.specs.declared.gathering.GatherFault.TheVariants.{Double, Stranger, Missing, NoMemory}
-use Rattle.ultra_sweep.specs.Job.{job_numbers, text_in, texts_of, IsOutcomeOf, IsResultAmong}
 use Rattle.ultra_sweep.specs.Gather.{HasText, AreGathered, AreSound, IsFirstMissingJob, ExplainsGatherFault, ExplainsEnd}
-use Rattle.ultra_sweep.specs.Places.{TextPlaces, text_in_place, IsPut, ExplainsPutFault, IsFirstEmpty}
 use Rattle.ultra_sweep.proofs.Numbers.{one_if-case, times_below-in, times_below-out, times-numbers_push, within-push}
 
 abbrev pub Bytes : Type 0

@@ -1,13 +1,10 @@
 -- the numbers of results, counted
 use Rattle.std.proofs.Common.{◌≡◌, ℕ, zero, suc, ◌+◌, ◌<◌, ◌≤◌, List, [], ◌∷◌, ◌++◌, Bool, true, false, length, refl, sym, ap, subst, ◌∙◌, arith, eq-eqb}
-use Rattle.std.proofs.lemmas.Bool.{eqb-true}
-use Rattle.std.proofs.lemmas.Bool.Decides.{nat_tests}
-use Rattle.std.proofs.lemmas.List.{map-append, length-map}
+use Rattle.std.proofs.lemmas.{Bool.{eqb-true, Decides.nat_tests}, List.{map-append, length-map}}
 use Rattle.std.specs.Prelude.{◌==◌, Contains}
 use Rattle.ultra_board.specs.View.{one_if, times, times_below}
 use Rattle.ultra_board.proofs.Times.{times-append, times-push, length-within, times-not_contained}
-use Rattle.ultra_sweep.specs.declared.job.JobResult.{JobResult}
-use Rattle.ultra_sweep.specs.Job.{job_numbers}
+use Rattle.ultra_sweep.specs.{declared.job.JobResult.JobResult, Job.job_numbers}
 
 -- a number is itself, and no other
 pub one_if-same : (i : ℕ) → one_if (i == i) ≡ 1

@@ -2,17 +2,9 @@
 use Rattle.std.proofs.Common.{◌≡◌, ℕ, ◌+◌, ◌≤◌, List, ◌∷◌, ◌++◌, length, min, refl, sym, ap, ◌∙◌, arith}
 use Rattle.std.specs.Prelude.{◌==◌, slice_index}
 use Rattle.atomic_table.specs.Table.{State}
-use Rattle.ultra_board.specs.declared.rule.View.{View}
-use Rattle.ultra_board.specs.declared.rule.Limits.{Limits}
-use Rattle.ultra_board.specs.View.{one_if, times, times_below, total_over_views}
-use Rattle.ultra_board.specs.Rule.{IsBoardRule}
+use Rattle.ultra_board.specs.{declared.rule.{View.View, Limits.Limits}, View.{one_if, times, times_below, total_over_views}, Rule.IsBoardRule}
 use Rattle.ultra_board.proofs.Times.{times_below-le}
-use Rattle.ultra_sweep.specs.declared.job.JobResult.{JobResult}
-use Rattle.ultra_sweep.specs.declared.gathering.GatherFault.{GatherFault}
-use Rattle.ultra_sweep.specs.declared.gathering.GatherFault.TheVariants.{Double, Stranger, Missing, NoMemory}
-use Rattle.ultra_sweep.specs.Job.{job_numbers}
-use Rattle.ultra_sweep.specs.Gather.{NamesEachOnce, IsNext, ExplainsGatherFault}
-use Rattle.ultra_sweep.specs.Law.{IsSomeSpent, SweepLaw}
+use Rattle.ultra_sweep.specs.{declared.{job.JobResult.JobResult, gathering.GatherFault.{GatherFault, TheVariants.{Double, Stranger, Missing, NoMemory}}}, Job.job_numbers, Gather.{NamesEachOnce, IsNext, ExplainsGatherFault}, Law.{IsSomeSpent, SweepLaw}}
 use Rattle.ultra_sweep.proofs.Numbers.{one_if-same, times_below-in, times_below-out, times-middle}
 
 -- the job that comes next is counted once more

@@ -1,10 +1,7 @@
 -- the results of the jobs below a number n, put together; this project's profile
 use Rattle.std.specs.Prelude.{◌≡◌, ◌<◌, ◌≤◌, ℕ, List, [], ◌∷◌, ◌++◌, All, Some, None, IsSome, Contains, length, slice_index_or, ⊤}
 use Rattle.ultra_board.specs.View.{times, times_below}
-use Rattle.ultra_sweep.specs.declared.job.JobResult.{JobResult}
-use Rattle.ultra_sweep.specs.declared.gathering.GatherFault.{GatherFault}
-use Rattle.ultra_sweep.specs.declared.gathering.GatherFault.TheVariants.{Double, Stranger, Missing, NoMemory}
-use Rattle.ultra_sweep.specs.Job.{job_numbers, text_in}
+use Rattle.ultra_sweep.specs.{declared.{job.JobResult.JobResult, gathering.GatherFault.{GatherFault, TheVariants.{Double, Stranger, Missing, NoMemory}}}, Job.{job_numbers, text_in}}
 
 -- every job below n is named once, and no other number is named
 abbrev pub NamesEachOnce : ℕ → List JobResult → Type 0

@@ -2,10 +2,7 @@
 use Rattle.std.specs.Prelude.{◌≡◌, ◌<◌, ℕ, List, map, length, Option, Some, None, IfSome, slice_get, ⊤}
 use Rattle.std.specs.List.{enumerate_from}
 use Rattle.ultra_model.specs.Trace.{trace}
-use Rattle.ultra_sweep.specs.declared.job.Job.{Job}
-use Rattle.ultra_sweep.specs.declared.job.JobResult.{JobResult}
-use Rattle.ultra_sweep.specs.declared.job.JobOutcome.{JobOutcome}
-use Rattle.ultra_sweep.specs.declared.job.JobOutcome.TheVariants.{Text, NoMemory}
+use Rattle.ultra_sweep.specs.declared.job.{Job.Job, JobResult.JobResult, JobOutcome.{JobOutcome, TheVariants.{Text, NoMemory}}}
 
 -- the trace of a job's run
 abbrev pub trace_of : Job → List ℕ

@@ -3,15 +3,8 @@ use Rattle.std.specs.Prelude.{◌≡◌, ℕ, List, true}
 use lib.ListN.{get_elem?}
 use mathlib.Core.Option.{some}
 use Rattle.atomic_table.specs.Table.{State}
-use Rattle.ultra_board.specs.declared.rule.View.{View}
-use Rattle.ultra_board.specs.declared.rule.Limits.{Limits}
-use Rattle.ultra_board.specs.View.{total_over_views, times}
-use Rattle.ultra_board.specs.Rule.{IsBoardRule}
-use Rattle.ultra_sweep.specs.declared.job.JobResult.{JobResult}
-use Rattle.ultra_sweep.specs.declared.gathering.GatherFault.{GatherFault}
-use Rattle.ultra_sweep.specs.declared.gathering.GatherFault.TheVariants.{NoMemory}
-use Rattle.ultra_sweep.specs.Job.{job_numbers}
-use Rattle.ultra_sweep.specs.Gather.{NamesEachOnce, ExplainsGatherFault}
+use Rattle.ultra_board.specs.{declared.rule.{View.View, Limits.Limits}, View.{total_over_views, times}, Rule.IsBoardRule}
+use Rattle.ultra_sweep.specs.{declared.{job.JobResult.JobResult, gathering.GatherFault.{GatherFault, TheVariants.NoMemory}}, Job.job_numbers, Gather.{NamesEachOnce, ExplainsGatherFault}}
 
 -- a call of `work` has ended well on the board: a seat is spent
 pub record IsSomeSpent (views : List View) : Type 0 where

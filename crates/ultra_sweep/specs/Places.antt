@@ -1,10 +1,8 @@
 -- a place for the text of each job; this project's profile
 use Rattle.std.specs.Prelude.{◌≡◌, ◌<◌, ◌≤◌, ℕ, List, ◌∷◌, ◌++◌, Option, Some, None, IsSome, Vec, length, map, slice_index_or, slice_set}
 use Rattle.std.specs.declared.alloc.Global.{Global}
-use Rattle.ultra_sweep.specs.declared.job.JobResult.{JobResult}
+use Rattle.ultra_sweep.specs.declared.{job.JobResult.JobResult, gathering.GatherFault.{GatherFault, TheVariants.{Double, Stranger, Missing, NoMemory}}}
 use Rattle.ultra_sweep.specs.declared.job.JobOutcome.TheVariants as outcome
-use Rattle.ultra_sweep.specs.declared.gathering.GatherFault.{GatherFault}
-use Rattle.ultra_sweep.specs.declared.gathering.GatherFault.TheVariants.{Double, Stranger, Missing, NoMemory}
 
 abbrev pub TextPlaces : Type 0
 TextPlaces = List (Option (Vec ℕ Global))

@@ -1,7 +1,6 @@
 -- what is written of all jobs of a sweep; this project's profile
 use Rattle.std.specs.Prelude.{ℕ, ◌+◌, List, [], ◌∷◌, ◌++◌, codes, decimal}
-use Rattle.ultra_sweep.specs.declared.reporting.JobForm.{JobForm}
-use Rattle.ultra_sweep.specs.declared.reporting.JobForm.TheVariants.{Numbered, Plain}
+use Rattle.ultra_sweep.specs.declared.reporting.JobForm.{JobForm, TheVariants.{Numbered, Plain}}
 
 -- the line that names a job, and its trace
 abbrev pub job_text : ℕ → List ℕ → List ℕ

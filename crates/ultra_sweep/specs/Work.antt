@@ -2,9 +2,7 @@
 -- project's profile
 use Rattle.std.specs.Prelude.{◌≡◌, ℕ, ◌+◌, List, [], ◌∷◌, ◌++◌, length, true, All}
 use Rattle.ultra_board.specs.declared.rule.View.{View}
-use Rattle.ultra_sweep.specs.declared.job.Job.{Job}
-use Rattle.ultra_sweep.specs.declared.job.JobResult.{JobResult}
-use Rattle.ultra_sweep.specs.Job.{job_numbers, IsResultAmong}
+use Rattle.ultra_sweep.specs.{declared.job.{Job.Job, JobResult.JobResult}, Job.{job_numbers, IsResultAmong}}
 
 -- n passes were taken: the passes were loaded once for each, and once each time that they were found
 -- to be full. How often that was is open

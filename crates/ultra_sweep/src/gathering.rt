@@ -1,10 +1,7 @@
 //! What all threads brought back, put together.
 
 ghost use Rattle.std.specs.Prelude.{◌≡◌, ◌≤◌, ℕ, [], IfOk, IfErr, OnOk, All, List, length, map, replicate, true, vec_len, vec_capacity};
-ghost use Rattle.ultra_sweep.specs.declared.job.Job.{Job};
-ghost use Rattle.ultra_sweep.specs.Job.{job_numbers, texts_of, IsResultAmong};
-ghost use Rattle.ultra_sweep.specs.Gather.{AreGathered, ExplainsGatherFault, ExplainsEnd};
-ghost use Rattle.ultra_sweep.specs.Places.{IsPut, ExplainsPutFault, IsFirstEmpty};
+ghost use Rattle.ultra_sweep.specs.{declared.job.Job.Job, Job.{job_numbers, texts_of, IsResultAmong}, Gather.{AreGathered, ExplainsGatherFault, ExplainsEnd}, Places.{IsPut, ExplainsPutFault, IsFirstEmpty}};
 
 use crate::job::{JobOutcome, JobResult};
 use std::alloc::{AllocError, Global};

@@ -1,8 +1,7 @@
 //! Jobs, what becomes of them, and who runs them.
 
 ghost use Rattle.std.specs.Prelude.{◌<◌, ℕ, List, Contains};
-ghost use Rattle.ultra_sweep.specs.declared.job.Job.{Job as JobOf};
-ghost use Rattle.ultra_sweep.specs.Job.{IsResultOf};
+ghost use Rattle.ultra_sweep.specs.{declared.job.Job.Job as JobOf, Job.IsResultOf};
 
 use std::alloc::Global;
 use std::sync::Wait;

@@ -1,8 +1,7 @@
 //! The work of one thread: jobs are drawn from the board, run under a pass and finished.
 
 ghost use Rattle.std.specs.Prelude.{◌≡◌, ◌<◌, ◌++◌, [], ◌∷◌, length, Contains, IfOk, OnErr};
-ghost use Rattle.ultra_sweep.specs.Job.{IsResultOf};
-ghost use Rattle.ultra_sweep.specs.Work.{HasWorked, HasEntered, HasDone};
+ghost use Rattle.ultra_sweep.specs.{Job.IsResultOf, Work.{HasWorked, HasEntered, HasDone}};
 
 use crate::job::{Job, JobGate, JobResult};
 use std::alloc::Global;

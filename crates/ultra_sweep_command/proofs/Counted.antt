@@ -1,10 +1,8 @@
 -- a failure that isn't one of standard output, and that none has the status 0
 use Rattle.std.proofs.Common.{◌≡◌, ℕ, List, refl}
 use Rattle.ultra_io.specs.Source.{File}
-use Rattle.ultra_inputs.specs.declared.failure.Failure.{Failure}
+use Rattle.ultra_inputs.specs.{declared.failure.Failure.Failure, Failure.{status_of, write_failures}, Inputs.{IsUnread, FileGaveNothing, not_had, not_accepted}}
 use Rattle.ultra_inputs.specs.declared.failure.Failure.TheVariants.{Usage, ArgumentsNotUtf8, NotRead, NotToml, BadField, UnknownKey, NotUtf8, BadProgramLine, BadJob, NotAnEntry, BadPe, NotFenced, NotLegal, BadParameter, NoMemory, NoThread, HeapTooSmall, HeapFull, NotWritten}
-use Rattle.ultra_inputs.specs.Failure.{status_of, write_failures}
-use Rattle.ultra_inputs.specs.Inputs.{IsUnread, FileGaveNothing, not_had, not_accepted}
 use Rattle.ultra_inputs.proofs.Endings.{ends}
 use Rattle.ultra_sweep_command.specs.Jobs.{ExplainsJobs}
 

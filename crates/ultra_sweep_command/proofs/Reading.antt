@@ -1,12 +1,10 @@
 -- the files of one job more
 use Rattle.std.proofs.Common.{◌≡◌, ◌∙◌, ◌<◌, ◌+◌, ℕ, List, [], ◌∷◌, ◌++◌, refl, ap, sym, subst, length, take, drop, get_or, append_assoc, take-append-drop}
-use Rattle.std.specs.Prelude.{String, string_bytes}
-use Rattle.std.specs.declared.alloc.Global.{Global}
+use Rattle.std.specs.{Prelude.{String, string_bytes}, declared.alloc.Global.Global}
 use Rattle.std.proofs.lemmas.List.{take_more, map-append}
 use Rattle.ultra_io.specs.Source.{File}
 use Rattle.ultra_settings.specs.JobsText.{Paths, all_paths}
-use Rattle.ultra_inputs.specs.declared.failure.Failure.{Failure}
-use Rattle.ultra_inputs.specs.Inputs.{Gave, GaveNothing}
+use Rattle.ultra_inputs.specs.{declared.failure.Failure.Failure, Inputs.{Gave, GaveNothing}}
 use Rattle.ultra_sweep.specs.declared.job.Job.{Job}
 use Rattle.ultra_sweep_command.specs.Jobs.{GaveJobs, GaveNoJobs, refused}
 

@@ -1,18 +1,11 @@
 -- who is started, seats that stay fresh, and the results of two seats that become those of one
 use Rattle.std.proofs.Common.{◌≡◌, ◌∙◌, ◌+◌, ◌-◌, ◌<◌, min, if◌then◌else◌, Bool, true, false, ℕ, List, ◌++◌, refl, ap, subst, sym, arith, inl, inr}
-use Rattle.std.proofs.lemmas.List.{map-append}
-use Rattle.std.proofs.lemmas.List.Elements.{All-append}
+use Rattle.std.proofs.lemmas.List.{map-append, Elements.All-append}
 use Rattle.std.specs.List.{All}
-use Rattle.ultra_board.specs.Seat.{SeatState, BoardState}
-use Rattle.ultra_board.specs.View.{view_after_join, second_view}
+use Rattle.ultra_board.specs.{Seat.{SeatState, BoardState}, View.{view_after_join, second_view}}
 use Rattle.ultra_args.specs.declared.sweep_output.SweepOutput.{SweepOutput}
-use Rattle.ultra_sweep.specs.declared.job.Job.{Job}
-use Rattle.ultra_sweep.specs.declared.job.JobResult.{JobResult}
-use Rattle.ultra_sweep.specs.Job.{job_numbers, IsResultAmong}
-use Rattle.ultra_sweep_command.specs.Output.{job_output}
-use Rattle.ultra_sweep_command.specs.declared.seat_results.SeatResults.{SeatResults}
-use Rattle.ultra_sweep_command.specs.SeatResults.{IsFresh, AreSeatResults, AreWholeResults, HasRead}
-use Rattle.ultra_sweep_command.specs.Sweep.{StartsThreads}
+use Rattle.ultra_sweep.specs.{declared.job.{Job.Job, JobResult.JobResult}, Job.{job_numbers, IsResultAmong}}
+use Rattle.ultra_sweep_command.specs.{Output.job_output, declared.seat_results.SeatResults.SeatResults, SeatResults.{IsFresh, AreSeatResults, AreWholeResults, HasRead}, Sweep.StartsThreads}
 
 -- where one of several threads is started
 pub starts_threads : (workers : ℕ) (progress : Bool) → 0 < (if progress then min workers 63 else workers - 1) → StartsThreads workers progress

@@ -1,8 +1,7 @@
 -- one count more is shown
 use Rattle.std.proofs.Common.{◌≡◌, ◌∙◌, ◌<◌, ◌≤◌, ◌+◌, ℕ, Bool, true, false, List, [], ◌∷◌, ◌++◌, refl, sym, ap, subst, append_assoc, append-nil, arith}
 use Rattle.std.proofs.lemmas.Grind.{flat_map-append}
-use Rattle.std.specs.Prelude.{Result, Ok, Err}
-use Rattle.std.specs.Result.{is_err}
+use Rattle.std.specs.{Prelude.{Result, Ok, Err}, Result.is_err}
 use Rattle.ultra_msg.specs.Bytes.{TakesPrefix, WritesOrFails}
 use Rattle.ultra_msg.proofs.Prefixes.{takes_all, takes_behind, takes_more, takes_none}
 use Rattle.ultra_io.specs.Account.{SinkState}

@@ -4,9 +4,7 @@ use Rattle.ultra_io.specs.Source.{File}
 use Rattle.ultra_settings.specs.declared.jobs.JobsFault.TheVariants as jobs_fault
 use Rattle.ultra_settings.specs.JobsText.{Paths}
 use Rattle.ultra_settings.specs.JobsText as jobs_text
-use Rattle.ultra_inputs.specs.declared.failure.Failure.{Failure}
-use Rattle.ultra_inputs.specs.declared.failure.Failure.TheVariants.{NotToml, BadJob, NoMemory}
-use Rattle.ultra_inputs.specs.Inputs.{Gave, GaveNothing}
+use Rattle.ultra_inputs.specs.{declared.failure.Failure.{Failure, TheVariants.{NotToml, BadJob, NoMemory}}, Inputs.{Gave, GaveNothing}}
 use Rattle.ultra_sweep.specs.declared.job.Job.{Job}
 
 -- why the text of a file lists no jobs

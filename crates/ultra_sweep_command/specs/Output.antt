@@ -1,11 +1,8 @@
 -- what a sweep writes of its jobs; this project's profile
 use Rattle.std.specs.Prelude.{ℕ, List, map, Option, Some, None}
 use Rattle.ultra_measure.specs.Texts.{all_names, job_rows}
-use Rattle.ultra_args.specs.declared.sweep_output.SweepOutput.{SweepOutput}
-use Rattle.ultra_args.specs.declared.sweep_output.SweepOutput.TheVariants.{Report, Measures}
-use Rattle.ultra_sweep.specs.declared.job.Job.{Job}
-use Rattle.ultra_sweep.specs.Job.{trace_of, texts_of}
-use Rattle.ultra_sweep.specs.Report.{report_text, table_text}
+use Rattle.ultra_args.specs.declared.sweep_output.SweepOutput.{SweepOutput, TheVariants.{Report, Measures}}
+use Rattle.ultra_sweep.specs.{declared.job.Job.Job, Job.{trace_of, texts_of}, Report.{report_text, table_text}}
 
 -- how many cycles a window has; where no number is given, as many as a run may have
 abbrev pub window_cycles : Option ℕ → ℕ

@@ -1,15 +1,9 @@
 -- the threads of a sweep, and what they bring back; this project's profile
 use Rattle.std.specs.Prelude.{◌≡◌, ℕ, ◌+◌, ◌-◌, min, if◌then◌else◌, List, [], All, true, length, Result, Ok, Err}
-use Rattle.ultra_board.specs.Seat.{SeatState, BoardState}
-use Rattle.ultra_board.specs.declared.rule.View.{View}
+use Rattle.ultra_board.specs.{Seat.{SeatState, BoardState}, declared.rule.View.View}
 use Rattle.ultra_args.specs.declared.sweep_output.SweepOutput.{SweepOutput}
-use Rattle.ultra_sweep.specs.declared.job.Job.{Job}
-use Rattle.ultra_sweep.specs.Job.{job_numbers, IsResultAmong}
-use Rattle.ultra_sweep_command.specs.Output.{job_output}
-use Rattle.ultra_sweep_command.specs.declared.SweepPlan.{SweepPlan}
-use Rattle.ultra_sweep_command.specs.declared.seat_results.SeatResults.{SeatResults}
-use Rattle.ultra_sweep_command.specs.declared.task.SweepTask.{SweepTask}
-use Rattle.ultra_sweep_command.specs.declared.sweep_threads.SweepThreads.{SweepThreads}
+use Rattle.ultra_sweep.specs.{declared.job.Job.Job, Job.{job_numbers, IsResultAmong}}
+use Rattle.ultra_sweep_command.specs.{Output.job_output, declared.{SweepPlan.SweepPlan, seat_results.SeatResults.SeatResults, task.SweepTask.SweepTask, sweep_threads.SweepThreads.SweepThreads}}
 
 -- how many threads are started: the caller's does jobs too, or it watches, with one of 64 seats
 abbrev pub threads_of : SweepPlan → ℕ

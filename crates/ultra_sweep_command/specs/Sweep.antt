@@ -1,22 +1,13 @@
 -- what a sweep reads, writes and shows; this project's profile
 use Rattle.std.specs.Prelude.{◌≡◌, ◌≢◌, ◌+◌, ℕ, ◌⊎◌, Bool, true, List, [], ◌∷◌, ◌++◌, length}
 use Rattle.ultra_msg.specs.Bytes.{TakesPrefix}
-use Rattle.ultra_io.specs.Account.{SinkState}
-use Rattle.ultra_io.specs.Source.{file_of}
+use Rattle.ultra_io.specs.{Account.SinkState, Source.file_of}
 use Rattle.ultra_settings.specs.JobsText.{Paths, Gives}
 use Rattle.ultra_args.specs.declared.sweep_output.SweepOutput.{SweepOutput}
-use Rattle.ultra_inputs.specs.declared.failure.Failure.{Failure}
-use Rattle.ultra_inputs.specs.declared.failure.Failure.TheVariants.{NoMemory, NoThread, NotWritten}
-use Rattle.ultra_inputs.specs.Failure.{status_of, read_failures}
-use Rattle.ultra_inputs.specs.Inputs.{FileGaveNothing}
-use Rattle.ultra_inputs.specs.Traffic.{Traffic, with_files}
+use Rattle.ultra_inputs.specs.{declared.failure.Failure.{Failure, TheVariants.{NoMemory, NoThread, NotWritten}}, Failure.{status_of, read_failures}, Inputs.FileGaveNothing, Traffic.{Traffic, with_files}, Shown.IsReported}
 use Rattle.ultra_sweep.specs.declared.job.Job.{Job}
-use Rattle.ultra_sweep_command.specs.declared.fault.SweepFault.{SweepFault}
+use Rattle.ultra_sweep_command.specs.{declared.fault.SweepFault.SweepFault, Jobs.{ExplainsJobs, GaveJobs, GaveNoJobs}, Output.swept_text, Shown.IsProgressShown}
 use Rattle.ultra_sweep_command.specs.declared.fault.SweepFault.TheVariants as fault
-use Rattle.ultra_sweep_command.specs.Jobs.{ExplainsJobs, GaveJobs, GaveNoJobs}
-use Rattle.ultra_sweep_command.specs.Output.{swept_text}
-use Rattle.ultra_inputs.specs.Shown.{IsReported}
-use Rattle.ultra_sweep_command.specs.Shown.{IsProgressShown}
 
 -- what a fault of the threads is for the command
 abbrev pub failure_of : SweepFault → Failure

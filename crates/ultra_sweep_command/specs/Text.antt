@@ -1,7 +1,6 @@
 -- how often a text in memory has failed; this project's profile
 use Rattle.std.specs.Prelude.{ℕ, ◌+◌}
-use Rattle.ultra_sweep_command.specs.declared.text.Refusals.{Refusals}
-use Rattle.ultra_sweep_command.specs.declared.text.Refusals.TheVariants.{None, Another'}
+use Rattle.ultra_sweep_command.specs.declared.text.Refusals.{Refusals, TheVariants.{None, Another'}}
 
 abbrev pub refusal_count : Refusals → ℕ
 refusal_count None = 0

@@ -1,8 +1,7 @@
 //! The program's way to run a job of a sweep: in the thread that drew it, into a text in memory.
 
 ghost use Rattle.std.specs.Prelude.{◌≡◌, ◌≤◌, []};
-ghost use Rattle.ultra_sweep.specs.Job.{trace_of, IsOutcomeOf};
-ghost use Rattle.ultra_sweep.specs.declared.job.Job.{Job as JobOf};
+ghost use Rattle.ultra_sweep.specs.{Job.{trace_of, IsOutcomeOf}, declared.job.Job.Job as JobOf};
 ghost use Rattle.ultra_measure.specs.Texts.{job_rows};
 ghost use Rattle.ultra_sweep_command.specs.Output.{job_output, window_cycles};
 

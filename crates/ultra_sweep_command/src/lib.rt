@@ -3,15 +3,10 @@
 
 ghost use Rattle.std.specs.Prelude.{◌≡◌, ◌≢◌, ◌+◌, List, IfErr, OnOk};
 ghost use Rattle.ultra_msg.specs.Bytes.{WritesOrFails};
-ghost use Rattle.ultra_sweep.specs.declared.job.Job.{Job as JobOf};
-ghost use Rattle.ultra_sweep.specs.Job.{texts_of};
-ghost use Rattle.ultra_sweep_command.specs.Output.{job_output, swept_text};
-ghost use Rattle.ultra_inputs.specs.declared.failure.Failure.{Failure};
-ghost use Rattle.ultra_inputs.specs.Failure.{status_of, read_failures, write_failures};
-ghost use Rattle.ultra_inputs.specs.Traffic.{traffic};
+ghost use Rattle.ultra_sweep.specs.{declared.job.Job.Job as JobOf, Job.texts_of};
+ghost use Rattle.ultra_sweep_command.specs.{Output.{job_output, swept_text}, Sweep.{Swept, HasFailed, SweptJobs, JobsFail}};
+ghost use Rattle.ultra_inputs.specs.{declared.failure.Failure.Failure, Failure.{status_of, read_failures, write_failures}, Traffic.traffic, Shown.stream};
 ghost use Rattle.ultra_settings.specs.JobsText.{all_paths};
-ghost use Rattle.ultra_inputs.specs.Shown.{stream};
-ghost use Rattle.ultra_sweep_command.specs.Sweep.{Swept, HasFailed, SweptJobs, JobsFail};
 
 mod fault;
 mod gate;

@@ -2,8 +2,7 @@
 
 ghost use Rattle.std.specs.Prelude.{◌≡◌, ◌+◌, IfOk, IfErr, OnOk};
 ghost use Rattle.ultra_settings.specs.JobsText.{all_paths, Gives};
-ghost use Rattle.ultra_inputs.specs.Failure.{read_failures};
-ghost use Rattle.ultra_inputs.specs.Inputs.{FileGave, FileGaveNothing};
+ghost use Rattle.ultra_inputs.specs.{Failure.read_failures, Inputs.{FileGave, FileGaveNothing}};
 ghost use Rattle.ultra_sweep_command.specs.Jobs.{ExplainsJobs, GaveJobs, GaveNoJobs};
 
 use std::alloc::Global;

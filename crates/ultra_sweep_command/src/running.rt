@@ -3,11 +3,8 @@
 ghost use Rattle.std.specs.Prelude.{◌≡◌, ◌<◌, ℕ, ◌+◌, false, length, IfOk, IfErr, OnOk, OnErr};
 ghost use Rattle.ultra_io.specs.Account.{SinkState};
 ghost use Rattle.ultra_sweep.specs.Job.{texts_of};
-ghost use Rattle.ultra_sweep_command.specs.Output.{job_output};
-ghost use Rattle.ultra_sweep_command.specs.SeatResults.{threads_of, IsSweepTask, IsFresh, AreWholeResults};
+ghost use Rattle.ultra_sweep_command.specs.{Output.job_output, SeatResults.{threads_of, IsSweepTask, IsFresh, AreWholeResults}, Shown.{HasShown, IsProgressShown}, declared.fault.SweepFault.TheVariants.NoThread};
 ghost use Rattle.ultra_inputs.specs.Shown.{stream};
-ghost use Rattle.ultra_sweep_command.specs.Shown.{HasShown, IsProgressShown};
-ghost use Rattle.ultra_sweep_command.specs.declared.fault.SweepFault.TheVariants.{NoThread};
 
 use crate::SweepPlan;
 use crate::fault::SweepFault;

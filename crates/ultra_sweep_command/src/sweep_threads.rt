@@ -4,8 +4,7 @@ ghost use Rattle.std.specs.Prelude.{◌≡◌, ◌≤◌, ◌<◌, ℕ, ◌+◌,
 ghost use Rattle.ultra_io.specs.Account.{SinkState};
 ghost use Rattle.ultra_sweep_command.specs.SeatResults.{IsFresh, AreWholeResults, HasTakenPart, IsSweepTask, AreSweepThreads, HasRead};
 ghost use Rattle.ultra_inputs.specs.Shown.{stream};
-ghost use Rattle.ultra_sweep_command.specs.Shown.{HasShown};
-ghost use Rattle.ultra_sweep_command.specs.declared.fault.SweepFault.TheVariants.{NoThread};
+ghost use Rattle.ultra_sweep_command.specs.{Shown.HasShown, declared.fault.SweepFault.TheVariants.NoThread};
 
 use crate::fault::SweepFault;
 use crate::gate::OutputGate;

@@ -1,8 +1,7 @@
 //! What one thread of a sweep does.
 
 ghost use Rattle.std.specs.Prelude.{◌≡◌};
-ghost use Rattle.ultra_sweep_command.specs.Output.{job_output};
-ghost use Rattle.ultra_sweep_command.specs.SeatResults.{IsFresh, HasTakenPart, IsSweepTask};
+ghost use Rattle.ultra_sweep_command.specs.{Output.job_output, SeatResults.{IsFresh, HasTakenPart, IsSweepTask}};
 
 use crate::gate::OutputGate;
 use crate::seat_results::SeatResults;

@@ -1,14 +1,9 @@
 -- where a request combines, by the places of the entries
 use Rattle.std.proofs.Common.{◌≡◌, ℕ, zero, suc, ◌<◌, ◌≤◌, length, List, [], ◌∷◌, Bool, true, false, refl, arith, ap, get_or}
-use Rattle.std.specs.Prelude.{Option, Some, None, slice_get, nat_lt}
-use Rattle.std.specs.List.{position, position_or_len}
-use Rattle.std.proofs.lemmas.Grind.{common_steps}
-use Rattle.std.proofs.lemmas.List.Sums.{fails_before_first}
-use Rattle.std.proofs.lemmas.Option.{get_or_from_slice_get}
+use Rattle.std.specs.{Prelude.{Option, Some, None, slice_get, nat_lt}, List.{position, position_or_len}}
+use Rattle.std.proofs.lemmas.{Grind.common_steps, List.Sums.fails_before_first, Option.get_or_from_slice_get}
 use Rattle.ultra_msg.specs.declared.Request.{Request}
-use Rattle.ultra_switch.specs.declared.QueueEntry.{QueueEntry}
-use Rattle.ultra_switch.specs.Partner.{IsFirst, IsPartner, combination_at}
-use Rattle.ultra_switch.specs.Arrive.{Lane, combine, combine_within, behind, can_combine}
+use Rattle.ultra_switch.specs.{declared.QueueEntry.QueueEntry, Partner.{IsFirst, IsPartner, combination_at}, Arrive.{Lane, combine, combine_within, behind, can_combine}}
 
 module _ {X : Type 0} where
   -- where no item passes, each of them fails

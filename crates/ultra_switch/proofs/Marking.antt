@@ -3,9 +3,7 @@ use Rattle.std.proofs.Common.{◌≡◌, ◌≢◌, ℕ, zero, suc, ◌+◌, ◌
 use Rattle.std.proofs.lemmas.List.{length-set}
 use Rattle.std.specs.Prelude.{Some, slice_get, slice_set, drop}
 use Rattle.ultra_msg.specs.declared.Request.{Request}
-use Rattle.ultra_switch.specs.Arrive.{entry}
-use Rattle.ultra_switch.specs.Queues.{request_of}
-use Rattle.ultra_switch.specs.Marks.{has_mark, marked_from, marked_by, AreOf}
+use Rattle.ultra_switch.specs.{Arrive.entry, Queues.request_of, Marks.{has_mark, marked_from, marked_by, AreOf}}
 
 pub length-marked_from : (w i : ℕ) (rs : List Request) → length (marked_from w i rs) ≡ length rs
 length-marked_from w i [] = refl

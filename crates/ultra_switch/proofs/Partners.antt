@@ -1,7 +1,6 @@
 -- the first entry of a queue that passes a test
 use Rattle.std.proofs.Common.{◌≡◌, ℕ, zero, suc, ◌<◌, ◌≤◌, length, List, [], ◌∷◌, Bool, true, false, arith, get_or}
-use Rattle.std.specs.Prelude.{Option, Some, None, IfSome, slice_get}
-use Rattle.std.specs.Option.{MatchOption}
+use Rattle.std.specs.{Prelude.{Option, Some, None, IfSome, slice_get}, Option.MatchOption}
 use Rattle.ultra_switch.specs.Partner.{IsFirst}
 
 module _ {X : Type 0} (p : X → Bool) where

@@ -1,11 +1,9 @@
 -- which record a reply takes, by the places of the records
 use Rattle.std.proofs.Common.{◌≡◌, ℕ, zero, suc, ◌<◌, length, List, [], ◌∷◌, true, false, refl, arith, ap, get_or}
-use Rattle.std.specs.Prelude.{Some, None}
-use Rattle.std.specs.List.{position, remove}
+use Rattle.std.specs.{Prelude.{Some, None}, List.{position, remove}}
 use Rattle.std.proofs.lemmas.List.Quantifiers.{position-Some}
 use Rattle.ultra_msg.specs.declared.ReplyMessage.{ReplyMessage}
-use Rattle.ultra_switch.specs.declared.WaitRecord.{WaitRecord}
-use Rattle.ultra_switch.specs.Split.{is_of, records_after, replies_of, old_reply, new_reply}
+use Rattle.ultra_switch.specs.{declared.WaitRecord.WaitRecord, Split.{is_of, records_after, replies_of, old_reply, new_reply}}
 use Rattle.ultra_switch.proofs.Combining.{fails_at_each}
 
 abbrev NoneBefore : ReplyMessage → List WaitRecord → ℕ → Type 0

@@ -1,12 +1,8 @@
 -- a request arrives at a queue toward memory. Queues, wait buffers and pairwise combining are the
 -- 1983 paper's; which entry combines, and when, is this project's profile
 use Rattle.std.specs.Prelude.{ℕ, List, [], ◌∷◌, ◌++◌, Bool, true, false, not, ◌&&◌, ◌==◌, nat_lt, length, Option, Some, None}
-use Rattle.ultra_msg.specs.declared.Request.{Request}
-use Rattle.ultra_msg.specs.Pair.{pair_of}
-use Rattle.ultra_switch.specs.declared.QueueEntry.{QueueEntry}
-use Rattle.ultra_switch.specs.declared.WaitRecord.{WaitRecord}
-use Rattle.ultra_switch.specs.declared.Arrived.{Arrived}
-use Rattle.ultra_switch.specs.declared.Arrived.TheVariants.{Appended, CombinedWith}
+use Rattle.ultra_msg.specs.{declared.Request.Request, Pair.pair_of}
+use Rattle.ultra_switch.specs.declared.{QueueEntry.QueueEntry, WaitRecord.WaitRecord, Arrived.{Arrived, TheVariants.{Appended, CombinedWith}}}
 
 -- a queue toward memory with its wait buffer, the front and the oldest record first
 pub record Lane : Type 0 where

@@ -1,12 +1,8 @@
 -- what the calls of the queues of a switch give and leave. Each call has two forms, on requests and
 -- replies and on their packets, with one definition. Room rules are this project's profile
 use Rattle.std.specs.Prelude.{ℕ, List, [], ◌∷◌, ◌++◌, Option, drop, slice_get}
-use Rattle.ultra_msg.specs.declared.Request.{Request}
-use Rattle.ultra_msg.specs.declared.ReplyMessage.{ReplyMessage}
-use Rattle.ultra_switch.specs.declared.Arrived.{Arrived}
-use Rattle.ultra_switch.specs.Arrive.{arrive, arrival}
-use Rattle.ultra_switch.specs.Split.{records_after, replies_of}
-use Rattle.ultra_switch.specs.Queues.{SizedLane, SizedReplies, request_of}
+use Rattle.ultra_msg.specs.declared.{Request.Request, ReplyMessage.ReplyMessage}
+use Rattle.ultra_switch.specs.{declared.Arrived.Arrived, Arrive.{arrive, arrival}, Split.{records_after, replies_of}, Queues.{SizedLane, SizedReplies, request_of}}
 
 -- ---- a queue toward memory with its wait buffer
 -- the request at the front, if there is one, and the queue without it

@@ -3,9 +3,7 @@
 use Rattle.std.specs.Prelude.{◌≡◌, ℕ, suc, ◌≤◌, List, [], ◌∷◌, Bool, false, ◌==◌, length}
 use Rattle.std.specs.Int.{bit_at}
 use Rattle.ultra_msg.specs.declared.Request.{Request}
-use Rattle.ultra_switch.specs.declared.QueueEntry.{QueueEntry}
-use Rattle.ultra_switch.specs.Arrive.{entry}
-use Rattle.ultra_switch.specs.declared.TheConstants.{MOST_REQUEST_PLACES}
+use Rattle.ultra_switch.specs.{declared.{QueueEntry.QueueEntry, TheConstants.MOST_REQUEST_PLACES}, Arrive.entry}
 
 abbrev pub has_mark : ℕ → ℕ → Bool
 has_mark word place = bit_at word place == 1

@@ -2,8 +2,7 @@
 use Rattle.std.specs.Prelude.{◌≡◌, ℕ, ◌<◌, List, Bool, true, false, length, Option, Some, None, slice_index_or, slice_get, slice_set}
 use Rattle.std.specs.Option.{MatchOption}
 use Rattle.ultra_msg.specs.declared.Request.{Request}
-use Rattle.ultra_switch.specs.declared.QueueEntry.{QueueEntry}
-use Rattle.ultra_switch.specs.Arrive.{Lane, Combination, combine_within, combined_entry}
+use Rattle.ultra_switch.specs.{declared.QueueEntry.QueueEntry, Arrive.{Lane, Combination, combine_within, combined_entry}}
 
 module _ {X : Type 0} (p : X → Bool) (xs : List X) where
   abbrev pub Fails : ℕ → Type 0

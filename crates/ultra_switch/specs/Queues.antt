@@ -1,11 +1,8 @@
 -- what a caller sees of the queues of a switch: what lies in them, and how many places they have.
 -- Their places are this project's profile
 use Rattle.std.specs.Prelude.{◌≤◌, ℕ, List, [], length, Option, Some, None}
-use Rattle.ultra_msg.specs.declared.Request.{Request}
-use Rattle.ultra_msg.specs.declared.ReplyMessage.{ReplyMessage}
-use Rattle.ultra_switch.specs.declared.QueueEntry.{QueueEntry}
-use Rattle.ultra_switch.specs.Arrive.{Lane, empty_lane}
-use Rattle.ultra_switch.specs.declared.TheConstants.{MOST_REQUEST_PLACES, MOST_WAIT_PLACES}
+use Rattle.ultra_msg.specs.declared.{Request.Request, ReplyMessage.ReplyMessage}
+use Rattle.ultra_switch.specs.{declared.{QueueEntry.QueueEntry, TheConstants.{MOST_REQUEST_PLACES, MOST_WAIT_PLACES}}, Arrive.{Lane, empty_lane}}
 
 -- a queue toward memory with its wait buffer, and the places of both
 pub record SizedLane : Type 0 where

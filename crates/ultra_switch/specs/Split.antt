@@ -1,11 +1,8 @@
 -- a reply comes back to a switch. That a combined request is answered from what the wait buffer
 -- keeps is the 1983 paper's
 use Rattle.std.specs.Prelude.{List, [], ◌∷◌, Bool, true, false, ◌&&◌, ◌==◌}
-use Rattle.ultra_msg.specs.declared.ReplyMessage.{ReplyMessage}
-use Rattle.ultra_msg.specs.Act.{reply_given}
-use Rattle.ultra_switch.specs.declared.WaitRecord.{WaitRecord}
-use Rattle.ultra_switch.specs.declared.Split.{Split}
-use Rattle.ultra_switch.specs.declared.Split.TheVariants.{One, Two}
+use Rattle.ultra_msg.specs.{declared.ReplyMessage.ReplyMessage, Act.reply_given}
+use Rattle.ultra_switch.specs.declared.{WaitRecord.WaitRecord, Split.{Split, TheVariants.{One, Two}}}
 
 -- whether a record has the identity of a reply: the processing element and the cell
 abbrev pub is_of : ReplyMessage → WaitRecord → Bool

@@ -2,9 +2,7 @@
 
 ghost use Rattle.std.specs.Prelude.{◌≡◌, ℕ, ◌+◌, ◌<◌, ◌≤◌, ◌==◌, ◌++◌, ◌∷◌, [], length, drop, slice_get, slice_set, IfOk, IfSome, Some, true, false};
 ghost use Rattle.std.specs.List.{position};
-ghost use Rattle.ultra_switch.specs.Arrive.{can_combine, entry};
-ghost use Rattle.ultra_switch.specs.Queues.{request_of};
-ghost use Rattle.ultra_switch.specs.declared.TheConstants.{MOST_REQUEST_PLACES};
+ghost use Rattle.ultra_switch.specs.{Arrive.{can_combine, entry}, Queues.request_of, declared.TheConstants.MOST_REQUEST_PLACES};
 
 use crate::QueueEntry;
 use crate::marks::Marks;
@@ -32,8 +30,7 @@ impl Model for MarkedQueue {
 }
 
 impl MarkedQueue {
-    ghost use Rattle.ultra_switch.specs.Marks.{MarkedEntries, marked_by};
-    ghost use Rattle.ultra_switch.specs.Partner.{IsFirst};
+    ghost use Rattle.ultra_switch.specs.{Marks.{MarkedEntries, marked_by}, Partner.IsFirst};
 
     /// An empty queue of this many places.
     pub(crate) fn new(alloc: Global, places: usize) -> Result<MarkedQueue, AllocError>

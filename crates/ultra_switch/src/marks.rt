@@ -1,8 +1,7 @@
 //! Marks of the requests that have combined in a queue.
 
 ghost use Rattle.std.specs.Prelude.{◌≡◌, ◌≢◌, ℕ, suc, ◌^◌, ◌<◌, true, false};
-ghost use Rattle.ultra_switch.specs.Marks.{has_mark};
-ghost use Rattle.ultra_switch.specs.declared.TheConstants.{MOST_REQUEST_PLACES};
+ghost use Rattle.ultra_switch.specs.{Marks.has_mark, declared.TheConstants.MOST_REQUEST_PLACES};
 
 use std::marker::Model;
 

@@ -1,8 +1,7 @@
 //! Queues toward the processing elements.
 
 ghost use Rattle.std.specs.Prelude.{◌≡◌, ℕ, ◌+◌, ◌<◌, ◌≤◌, ◌==◌, length, slice_get, nat_le, Some, IfOk};
-ghost use Rattle.ultra_switch.specs.Calls.{first_reply, with_reply, without_first};
-ghost use Rattle.ultra_switch.specs.Queues.{empty_replies};
+ghost use Rattle.ultra_switch.specs.{Calls.{first_reply, with_reply, without_first}, Queues.empty_replies};
 
 use crate::queue::Queue;
 use std::alloc::{AllocError, Global};

@@ -2,12 +2,8 @@
 
 ghost use Rattle.std.specs.Prelude.{◌≡◌, ℕ, ◌+◌, ◌<◌, ◌≤◌, ◌==◌, ◌&&◌, length, slice_get, nat_le, IfOk, IfSome, ◌∷◌, []};
 ghost use Rattle.std.specs.List.{position};
-ghost use Rattle.ultra_switch.specs.Arrive.{sent_for, wait_record};
+ghost use Rattle.ultra_switch.specs.{Arrive.{sent_for, wait_record}, Partner.IsPartner, Split.{is_of, replies_in, old_reply, new_reply}, Queues.empty_requests, declared.TheConstants.MOST_REQUEST_PLACES};
 ghost use Rattle.ultra_switch.specs.Calls.{after_split, arrival_of, lane_head, split_replies, with_arrival, without_head};
-ghost use Rattle.ultra_switch.specs.Partner.{IsPartner};
-ghost use Rattle.ultra_switch.specs.Split.{is_of, replies_in, old_reply, new_reply};
-ghost use Rattle.ultra_switch.specs.Queues.{empty_requests};
-ghost use Rattle.ultra_switch.specs.declared.TheConstants.{MOST_REQUEST_PLACES};
 
 use crate::marked_queue::MarkedQueue;
 use crate::{Arrived, MOST_WAIT_PLACES, QueueEntry, Split, WaitRecord};

@@ -4,7 +4,7 @@ use Rattle.ultra_topology.proofs.Common.{nat_tests, Ports, all_below_at, AreInle
 use Rattle.ultra_route.specs.Route.{shuffled}
 use Rattle.ultra_route.proofs.Table.{all_below}
 use Rattle.ultra_topology.proofs.{Put.has_places, Standing.is_switch}
-use Rattle.ultra_topology.specs.{Numbers.IsSmall, Ways.reply_targets, Ways.request_targets, Wiring.AreNeighbours, Wiring.neighbours, declared.wiring.Neighbours.Neighbours}
+use Rattle.ultra_topology.specs.{Numbers.IsSmall, Ways.{reply_targets, request_targets}, Wiring.{AreNeighbours, neighbours}, declared.wiring.Neighbours.Neighbours}
 
 -- what is computed of every network
 pub each_network : (test : ℕ → Bool) → all_below (λ k. test (k + 1)) 6 ≡ true → (d : ℕ) → 1 ≤ d → d ≤ 6 → test d ≡ true

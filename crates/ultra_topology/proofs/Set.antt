@@ -1,8 +1,9 @@
 -- Units and the bits of their words, and walks over units.
 use Rattle.std.proofs.Common.{◌≡◌, ℕ, min, Bool, ◌&&◌, ◌+◌, ◌-◌, ◌*◌, ◌/◌, ◌%◌, ◌^◌, ◌<◌, ◌≤◌, true, false, List, [], ◌∷◌, zero, suc, refl, length, get_or, map, set, eqb, sym, ◌∙◌, ap, inl, inr, arith, eq-eqb, get_or-set_same, get_or-set_other, replicate, w64, bit_and, bit_or, nat_lt, not, ◌||◌, ◌≢◌, ◌==◌}
 use Rattle.ultra_topology.proofs.Common.{cases_lt, eqb-true, get_or-replicate, get_or_past, length-replicate, nat_tests, AreBits, has_bit, comes_to, word_end, HasCome, AreSameBut, HasNoneFrom, HasNoneWithin, IsFirstOf, IsWalk, Walk}
-use Rattle.std.proofs.lemmas.{List.FromFn.get_or-map-range_with_len, Nat.le_or_l, Nat.le_or_r, Nat.and_le_r, Nat.shr-shr, Nat.Bits.bit_at-lt, Nat.Bits.bit_at-suc, Nat.Bits.bit_at-zero, Nat.Bits.bit_at_lowest, Nat.Bits.bit_at_above, Nat.Bits.bit_at_and, Nat.Bits.bit_at_not, Nat.Bits.bit_at_ones, Nat.Bits.bit_at_or, Nat.Bits.bit_at_set_same, Nat.Bits.bit_at_set_other, Nat.Bits.bit_at_clear_same, Nat.Bits.bit_at_clear_other, Nat.Bits.bit_at-trailing_zeros}
-use Rattle.std.specs.{Int.bit_at, Int.bit_not, Int.trailing_zeros, List.range_with_len}
+use Rattle.std.proofs.lemmas.{List.FromFn.get_or-map-range_with_len, Nat.{le_or_l, le_or_r, and_le_r, shr-shr}}
+use Rattle.std.proofs.lemmas.Nat.Bits.{bit_at-lt, bit_at-suc, bit_at-zero, bit_at_lowest, bit_at_above, bit_at_and, bit_at_not, bit_at_ones, bit_at_or, bit_at_set_same, bit_at_set_other, bit_at_clear_same, bit_at_clear_other, bit_at-trailing_zeros}
+use Rattle.std.specs.{Int.{bit_at, bit_not, trailing_zeros}, List.range_with_len}
 use Rattle.ultra_topology.specs.Set.{has_unit}
 
 -- ---- one unit

@@ -2,8 +2,7 @@
 -- another
 use Rattle.std.specs.Prelude.{◌≡◌, ◌≢◌, ℕ, ◌+◌, ◌*◌, ◌^◌, ◌<◌, ◌⊎◌, false, length, List, Option, Some, None, IsSomeAnd, slice_set}
 use Rattle.ultra_switch.specs.declared.Ports.{Ports}
-use Rattle.ultra_topology.specs.{Numbers.IsSmall, Numbers.switch_count, Set.has_unit, Units.index_of, Units.stage_of, Units.of_unit, Links.put_on, Ways.places_of, Marks.on_link, Marks.reply_links, Marks.delivery_link, Marks.request_links, Marks.memory_link}
-use Rattle.ultra_topology.specs.declared.TheConstants.{MOST_UNITS}
+use Rattle.ultra_topology.specs.{Numbers.{IsSmall, switch_count}, Set.has_unit, Units.{index_of, stage_of, of_unit}, Links.put_on, Ways.places_of, Marks.{on_link, reply_links, delivery_link, request_links, memory_link}, declared.TheConstants.MOST_UNITS}
 
 -- one link, which is at both ports
 abbrev pub at_both : ℕ → Ports ℕ

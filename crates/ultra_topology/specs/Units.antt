@@ -1,6 +1,6 @@
 -- which unit of a machine of d stages has a number
 use Rattle.std.specs.Prelude.{◌≡◌, ℕ, ◌+◌, ◌-◌, ◌/◌, ◌%◌, ◌^◌, ◌<◌, ◌≤◌, true, false, nat_lt}
-use Rattle.ultra_topology.specs.{Numbers.switch_count, Numbers.switch_number, Numbers.module_number, Numbers.element_number, Numbers.unit_count, declared.unit.Unit.Unit, declared.unit.Unit.TheVariants.Switch, declared.unit.Unit.TheVariants.Module, declared.unit.Unit.TheVariants.Element, declared.unit.Unit.TheVariants.Nothing}
+use Rattle.ultra_topology.specs.{Numbers.{switch_count, switch_number, module_number, element_number, unit_count}, declared.unit.Unit.{Unit, TheVariants.{Switch, Module, Element, Nothing}}}
 
 -- the stage of the switch with a number, and its index there
 abbrev pub stage_of : ℕ → ℕ → ℕ

@@ -1,8 +1,7 @@
 -- visits of units in the order of their numbers, and walks over a set that loses some
 use Rattle.std.specs.Prelude.{◌≡◌, ℕ, zero, suc, ◌+◌, ◌-◌, ◌<◌, Bool, true, false, List, nat_lt}
 use Rattle.std.specs.Int.{bit_at}
-use Rattle.ultra_topology.specs.{Set.AreBits, Set.has_bit, Set.has_unit, Set.IsFirstOf, Set.word_end, declared.pass.Walk.Walk}
-use Rattle.ultra_topology.specs.declared.TheConstants.{MOST_UNITS}
+use Rattle.ultra_topology.specs.{Set.{AreBits, has_bit, has_unit, IsFirstOf, word_end}, declared.{pass.Walk.Walk, TheConstants.MOST_UNITS}}
 
 -- what is left after visits of the units below a number
 unfoldable pub after_units : {T : Type 0} → (ℕ → T → T) → ℕ → T → T

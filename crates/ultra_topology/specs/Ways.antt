@@ -3,7 +3,7 @@ use Rattle.std.specs.Prelude.{ℕ, ◌+◌, ◌-◌, ◌*◌, ◌/◌, ◌%◌, 
 use Rattle.ultra_route.specs.Route.{shuffled, bit_of}
 use Rattle.ultra_switch.specs.declared.Ports.{Ports}
 use Rattle.ultra_msg.specs.declared.Request.{Request}
-use Rattle.ultra_topology.specs.{Set.has_unit, Numbers.link_number, Numbers.reply_target, Numbers.request_target, Numbers.switch_number}
+use Rattle.ultra_topology.specs.{Set.has_unit, Numbers.{link_number, reply_target, request_target, switch_number}}
 
 -- the links by which messages leave switch k of stage s
 abbrev pub places_of : ℕ → ℕ → ℕ → Ports ℕ

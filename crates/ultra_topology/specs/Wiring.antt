@@ -1,6 +1,6 @@
 -- where each switch of a network of d stages is, and what is beside it
 use Rattle.std.specs.Prelude.{◌≡◌, ℕ, ◌+◌, ◌^◌, ◌<◌, List, length, slice_index_or}
-use Rattle.ultra_topology.specs.{Numbers.switch_count, Units.index_of, Units.stage_of, Marks.reply_links, Marks.request_links, Ways.reply_targets, Ways.request_targets, declared.wiring.Neighbours.Neighbours}
+use Rattle.ultra_topology.specs.{Numbers.switch_count, Units.{index_of, stage_of}, Marks.{reply_links, request_links}, Ways.{reply_targets, request_targets}, declared.wiring.Neighbours.Neighbours}
 
 -- beside switch k of stage s
 abbrev pub neighbours : ℕ → ℕ → ℕ → Neighbours

@@ -2,7 +2,7 @@
 //! to them.
 
 ghost use Rattle.std.specs.Prelude.{◌≡◌, ◌^◌, ◌<◌, None, slice_set};
-ghost use Rattle.ultra_topology.specs.{Inlets.LeadsToNoOther, Numbers.link_number as number_of_link, Links.put_on, Marks.delivery_link, Marks.memory_link, Marks.on_link, Units.IsElement, Units.IsModule};
+ghost use Rattle.ultra_topology.specs.{Inlets.LeadsToNoOther, Numbers.link_number as number_of_link, Links.put_on, Marks.{delivery_link, memory_link, on_link}, Units.{IsElement, IsModule}};
 
 use crate::links::{Links, Message};
 use crate::numbers::link_number;

@@ -2,8 +2,8 @@
 
 ghost use Rattle.std.specs.Prelude.{◌≡◌, ℕ, ◌<◌, true, false, Option, IfOk, None, is_some, length, replicate, slice_set};
 ghost use Rattle.ultra_switch.specs.declared.Ports.{Ports};
-ghost use Rattle.ultra_topology.specs.{Inlets.AreEmpty, Inlets.AreInlets, Inlets.AreTargets, Inlets.LeadsToNoOther, Inlets.link_count, Inlets.put_on_both, Inlets.reply_inlets, Inlets.request_inlets, Inlets.taken_by_turns, Links.LinksState, Links.put_on, Set.AreSameBut, Set.HasNoneFrom, Set.has_unit, Marks.on_link, Marks.ports_in_turn, Marks.without_both};
-ghost use Rattle.ultra_topology.specs.declared.TheConstants.{MOST_UNITS};
+ghost use Rattle.ultra_topology.specs.Inlets.{AreEmpty, AreInlets, AreTargets, LeadsToNoOther, link_count, put_on_both, reply_inlets, request_inlets, taken_by_turns};
+ghost use Rattle.ultra_topology.specs.{Links.{LinksState, put_on}, Set.{AreSameBut, HasNoneFrom, has_unit}, Marks.{on_link, ports_in_turn, without_both}, declared.TheConstants.MOST_UNITS};
 
 use crate::unit_set::{UnitNumber, UnitSet};
 use std::alloc::{AllocError, Global};

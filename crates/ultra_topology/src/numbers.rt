@@ -1,7 +1,7 @@
 //! The numbers of units and of the links between them.
 
 ghost use Rattle.std.specs.Prelude.{◌≡◌, true, ℕ, ◌+◌, ◌-◌, ◌*◌, ◌^◌, ◌<◌, ◌≤◌};
-ghost use Rattle.ultra_topology.specs.{Numbers.IsSmall, Numbers.element_number as number_of_element, Numbers.module_number as number_of_module, Numbers.link_number as number_of_link, Numbers.reply_source as source_of_reply, Numbers.reply_target as target_of_reply, Numbers.request_source as source_of_request, Numbers.request_target as target_of_request, Numbers.switch_count as count_of_switches, Numbers.switch_number as number_of_switch};
+ghost use Rattle.ultra_topology.specs.Numbers.{IsSmall, element_number as number_of_element, module_number as number_of_module, link_number as number_of_link, reply_source as source_of_reply, reply_target as target_of_reply, request_source as source_of_request, request_target as target_of_request, switch_count as count_of_switches, switch_number as number_of_switch};
 ghost use Rattle.ultra_topology.specs.declared.TheConstants.{MOST_UNITS};
 
 use ultra_route::Net;

@@ -1,8 +1,7 @@
 //! Walks over the units of a set, and visits of them.
 
 ghost use Rattle.std.specs.Prelude.{◌≡◌, ℕ, ◌+◌, ◌*◌, ◌<◌, ◌≤◌, true, false, IfNone, IfSome};
-ghost use Rattle.ultra_topology.specs.{Set.HasNoneFrom, Set.has_unit, Visits.after_units, Visits.HasCome, Visits.IsWalk, Visits.comes_to};
-ghost use Rattle.ultra_topology.specs.declared.TheConstants.{MOST_UNITS};
+ghost use Rattle.ultra_topology.specs.{Set.{HasNoneFrom, has_unit}, Visits.{after_units, HasCome, IsWalk, comes_to}, declared.TheConstants.MOST_UNITS};
 
 use crate::unit_set::{UnitNumber, UnitSet, WORDS};
 

@@ -2,7 +2,7 @@
 
 ghost use Rattle.std.specs.Prelude.{◌≡◌, ℕ, ◌-◌, ◌/◌, ◌^◌, ◌<◌, true};
 ghost use Rattle.ultra_route.specs.Route.{shuffled};
-ghost use Rattle.ultra_topology.specs.{Numbers.IsSmall, Numbers.switch_number as number_of_switch, Numbers.request_target as target_of_request, Ways.has_request_way as way_of_request, Ways.has_room_at as room_at, Ways.has_way_from_element as way_from_element, Ways.reply_targets as targets_of_replies, Ways.reply_ways};
+ghost use Rattle.ultra_topology.specs.{Numbers.{IsSmall, switch_number as number_of_switch, request_target as target_of_request}, Ways.{has_request_way as way_of_request, has_room_at as room_at, has_way_from_element as way_from_element, reply_targets as targets_of_replies, reply_ways}};
 
 use crate::numbers::switch_number;
 use crate::unit_set::{UnitNumber, UnitSet};

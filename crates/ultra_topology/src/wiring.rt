@@ -1,8 +1,8 @@
 //! What is beside each unit of a network.
 
 ghost use Rattle.std.specs.Prelude.{◌≡◌, true, ℕ, ◌-◌, ◌^◌, ◌<◌, IfOk, IfSome, None, Some};
-ghost use Rattle.ultra_topology.specs.{Inlets.AreInlets, Inlets.LeadOn, Inlets.reply_inlets as inlets_of_replies, Inlets.request_inlets as inlets_of_requests, Marks.reply_links as links_of_replies, Marks.request_links as links_of_requests, Numbers.IsSmall, Numbers.switch_count as count_of_switches, Units.IsElement, Units.IsModule, Units.IsUnit, Units.index_of, Units.of_unit, Units.stage_of, Units.unit_of, Ways.reply_targets as targets_of_replies, Ways.request_targets as targets_of_requests, Wiring.IsWired, Wiring.neighbours};
-ghost use Rattle.ultra_topology.specs.declared.TheConstants.{MOST_UNITS};
+ghost use Rattle.ultra_topology.specs.{Inlets.{AreInlets, LeadOn, reply_inlets as inlets_of_replies, request_inlets as inlets_of_requests}, Marks.{reply_links as links_of_replies, request_links as links_of_requests}, Numbers.{IsSmall, switch_count as count_of_switches}, Ways.{reply_targets as targets_of_replies, request_targets as targets_of_requests}, Wiring.{IsWired, neighbours}, declared.TheConstants.MOST_UNITS};
+ghost use Rattle.ultra_topology.specs.Units.{IsElement, IsModule, IsUnit, index_of, of_unit, stage_of, unit_of};
 
 use crate::numbers::{
     by_port, link_number, reply_source, reply_target, request_source, request_target, switch_count,

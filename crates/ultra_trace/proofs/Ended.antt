@@ -3,8 +3,7 @@ use Rattle.std.proofs.Common.{◌≡◌, ℕ, ◌++◌, List, [], true, false}
 use Rattle.std.specs.Prelude.{Result, Ok, Err, OnOk, OnErr, IfErr}
 use Rattle.ultra_msg.specs.Bytes.{TakesPrefix}
 use Rattle.ultra_crew.specs.declared.fault.CrewFault.{CrewFault}
-use Rattle.ultra_io.specs.declared.text_buffer.TextBuffer.{TextBuffer}
-use Rattle.ultra_io.specs.TextBuffer.{IsBlank, Writes, WritesPrefix}
+use Rattle.ultra_io.specs.{declared.text_buffer.TextBuffer.TextBuffer, TextBuffer.{IsBlank, Writes, WritesPrefix}}
 use Rattle.ultra_io.proofs.Writing.{finished, part_taken}
 use Rattle.ultra_trace_alone.specs.declared.fault.RunFault.{RunFault}
 use Rattle.ultra_trace.specs.Faults.{fault_of_crew}

@@ -1,6 +1,5 @@
 -- the faults of a run by several workers; this project's profile
-use Rattle.ultra_trace_alone.specs.declared.fault.RunFault.{RunFault}
-use Rattle.ultra_trace_alone.specs.declared.fault.RunFault.TheVariants.{NoMemory, NoThread}
+use Rattle.ultra_trace_alone.specs.declared.fault.RunFault.{RunFault, TheVariants.{NoMemory, NoThread}}
 use Rattle.ultra_crew.specs.declared.fault.CrewFault.{CrewFault}
 use Rattle.ultra_crew.specs.declared.fault.CrewFault.TheVariants as crew
 

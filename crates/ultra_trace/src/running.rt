@@ -4,11 +4,7 @@
 ghost use Rattle.std.specs.Prelude.{◌≡◌, ◌≢◌, ◌+◌, ◌≤◌, List, ℕ, ◌++◌, OnOk, OnErr, IfErr};
 ghost use Rattle.ultra_msg.specs.Bytes.{TakesPrefix};
 ghost use Rattle.ultra_model.specs.Trace.{trace};
-ghost use Rattle.ultra_trace_alone.specs.declared.fault.RunFault.TheVariants.{NoMemory, NoThread};
-ghost use Rattle.ultra_trace_alone.specs.Faults.{sink_faults};
-ghost use Rattle.ultra_trace_alone.specs.Headline.{Headline};
-ghost use Rattle.ultra_trace_alone.specs.Part.{part_of};
-ghost use Rattle.ultra_trace_alone.specs.RunText.{run_text};
+ghost use Rattle.ultra_trace_alone.specs.{declared.fault.RunFault.TheVariants.{NoMemory, NoThread}, Faults.sink_faults, Headline.Headline, Part.part_of, RunText.run_text};
 
 use crate::together::write_run_together;
 use std::alloc::Global;

@@ -6,11 +6,7 @@ ghost use Rattle.ultra_msg.specs.Bytes.{TakesPrefix};
 ghost use Rattle.ultra_io.specs.TextBuffer.{IsBlank, Writes, WritesPrefix, has_failed};
 ghost use Rattle.ultra_model.specs.Trace.{by_number, cycle_count};
 ghost use Rattle.ultra_crew.specs.ExpectedResults.{AreExpectedResults};
-ghost use Rattle.ultra_trace_alone.specs.declared.fault.RunFault.TheVariants.{Write};
-ghost use Rattle.ultra_trace_alone.specs.Faults.{sink_faults};
-ghost use Rattle.ultra_trace_alone.specs.BlocksAfter.{IsAfter};
-ghost use Rattle.ultra_trace_alone.specs.Dealt.{IsDealtOut};
-ghost use Rattle.ultra_trace_alone.specs.RunText.{run_text};
+ghost use Rattle.ultra_trace_alone.specs.{declared.fault.RunFault.TheVariants.Write, Faults.sink_faults, BlocksAfter.IsAfter, Dealt.IsDealtOut, RunText.run_text};
 ghost use Rattle.ultra_trace.specs.Faults.{fault_of_crew};
 
 use std::alloc::Global;

@@ -1,16 +1,13 @@
 -- how many cycles a trace has
 use Rattle.std.proofs.Common.{ℕ, zero, suc, ◌≡◌, ◌+◌, ◌-◌, ◌≤◌, ◌<◌, ◌⊎◌, inl, inr, List, ◌++◌, Bool, true, false, ◌||◌, Some, None, refl, sym, ◌∙◌, ap, subst, arith, add-one}
-use Rattle.std.specs.List.{find, range_with_len, flat_map}
-use Rattle.std.specs.Option.{unwrap_or}
+use Rattle.std.specs.{List.{find, range_with_len, flat_map}, Option.unwrap_or}
 use Rattle.std.proofs.lemmas.List.Concat.{flat_map-append}
 use Rattle.ultra_isa.specs.declared.Instr.{Instr}
-use Rattle.ultra_model.specs.Machine.{Settings, Machine, start, is_quiet}
+use Rattle.ultra_model.specs.{Machine.{Settings, Machine, start, is_quiet}, Trace.{by_number, cycle_count}}
 use Rattle.ultra_block.specs.State.{BlocksState}
 use Rattle.ultra_model.specs.Phases.{after, cycle, reply_phase, memory_phase, request_phase, processor_phase}
-use Rattle.ultra_io.specs.declared.text_buffer.TextBuffer.{TextBuffer}
-use Rattle.ultra_io.specs.TextBuffer.{Writes, WritesPrefix}
+use Rattle.ultra_io.specs.{declared.text_buffer.TextBuffer.TextBuffer, TextBuffer.{Writes, WritesPrefix}}
 use Rattle.ultra_trace_alone.specs.BlocksAfter.{IsAfter}
-use Rattle.ultra_model.specs.Trace.{by_number, cycle_count}
 use Rattle.ultra_io.proofs.Writing.{writes_failed}
 use Rattle.ultra_holders.proofs.Skipped.{range_parts}
 use Rattle.ultra_trace_text.proofs.Numbered.{writes_number}

@@ -2,11 +2,8 @@
 use Rattle.std.proofs.Common.{◌≡◌, ℕ, List, ◌++◌, refl}
 use Rattle.std.specs.Prelude.{Result, Ok, Err, OnOk}
 use Rattle.ultra_isa.specs.declared.Instr.{Instr}
-use Rattle.ultra_model.specs.Machine.{Settings}
-use Rattle.ultra_model.specs.Ranges.{AreInRange}
-use Rattle.ultra_serial_law.proofs.Law.{are_chained}
-use Rattle.ultra_serial_law.proofs.Replies.{answers_after}
-use Rattle.ultra_model.specs.Trace.{trace}
+use Rattle.ultra_model.specs.{Machine.Settings, Ranges.AreInRange, Trace.trace}
+use Rattle.ultra_serial_law.proofs.{Law.are_chained, Replies.answers_after}
 use Rattle.ultra_trace_alone.specs.Headline.{Headline}
 use Rattle.ultra_trace_alone.proofs.Shown.{lines_are, replies_shown}
 

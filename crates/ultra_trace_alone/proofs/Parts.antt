@@ -1,15 +1,11 @@
 -- the part with all lines of all cycles is the trace
 use Rattle.std.proofs.Common.{ℕ, zero, suc, ◌≡◌, ◌+◌, ◌≤◌, ◌<◌, List, ◌++◌, Bool, refl, ap, subst, arith}
-use Rattle.std.specs.List.{find, range_with_len}
-use Rattle.std.specs.Option.{unwrap_or}
+use Rattle.std.specs.{List.{find, range_with_len}, Option.unwrap_or}
 use Rattle.std.proofs.lemmas.Bool.Decides.{nat_tests}
 use Rattle.ultra_isa.specs.declared.Instr.{Instr}
-use Rattle.ultra_model.specs.Machine.{Settings, is_quiet}
-use Rattle.ultra_model.specs.Phases.{after}
+use Rattle.ultra_model.specs.{Machine.{Settings, is_quiet}, Phases.after}
 use Rattle.ultra_model.specs.Trace.{all_cycles_text, by_number, cycle_count, cycle_text, first_line, trace}
-use Rattle.ultra_trace_alone.specs.declared.part.CycleLines.TheVariants.{All}
-use Rattle.ultra_trace_alone.specs.declared.part.TracePart.{TracePart}
-use Rattle.ultra_trace_alone.specs.Part.{part_lines, part_of, trace_end}
+use Rattle.ultra_trace_alone.specs.{declared.part.{CycleLines.TheVariants.All, TracePart.TracePart}, Part.{part_lines, part_of, trace_end}}
 use Rattle.ultra_trace_text.proofs.Numbered.{by_number_more}
 
 by_number_same : (n : ℕ) (f g : ℕ → List ℕ) → ((k : ℕ) → k < n → f k ≡ g k) → by_number n f ≡ by_number n g

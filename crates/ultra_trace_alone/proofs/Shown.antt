@@ -3,27 +3,12 @@ use Rattle.std.proofs.Common.{◌≡◌, ◌==◌, ℕ, zero, suc, ◌+◌, ◌-
 use Rattle.std.specs.Fmt.{digit_glyph, digits, digits_onto}
 use Rattle.std.specs.List.{flat_map, list_all, onto_first, range_with_len, slice_split, starts_with}
 use Rattle.std.proofs.lemmas.Bool.{and_from, and_parts, cases_Bool, cond-false, cond-true, ne_eqb, lt-ltb}
-use Rattle.std.proofs.lemmas.List.{map-append}
-use Rattle.std.proofs.lemmas.List.Folds.{list_all-append}
-use Rattle.ultra_msg.specs.declared.Event.{Event}
-use Rattle.ultra_msg.specs.declared.Event.TheVariants.{Delivered, Served, Combined, Issued}
-use Rattle.ultra_msg.specs.declared.Op.{Op}
-use Rattle.ultra_msg.specs.declared.Op.TheVariants.{Load, Store, Faa, Swap}
-use Rattle.ultra_msg.specs.declared.Request.{Request}
-use Rattle.ultra_msg.specs.declared.Reply.{Reply}
+use Rattle.std.proofs.lemmas.List.{map-append, Folds.list_all-append}
+use Rattle.ultra_msg.specs.declared.{Event.{Event, TheVariants.{Delivered, Served, Combined, Issued}}, Op.{Op, TheVariants.{Load, Store, Faa, Swap}}, Request.Request, Reply.Reply, ReplyMessage.ReplyMessage, Give.Give}
 use Rattle.ultra_msg.specs.declared.Reply.TheVariants as reply
-use Rattle.ultra_msg.specs.declared.ReplyMessage.{ReplyMessage}
-use Rattle.ultra_msg.specs.declared.Give.{Give}
 use Rattle.ultra_msg.specs.declared.Give.TheVariants as give
-use Rattle.ultra_isa.specs.declared.Instr.{Instr}
-use Rattle.ultra_isa.specs.declared.MachineFault.{MachineFault}
-use Rattle.ultra_isa.specs.declared.MachineFault.TheVariants.{AddressOutOfRange, PastEnd}
-use Rattle.ultra_isa.specs.declared.Activity.{Activity}
-use Rattle.ultra_isa.specs.declared.Activity.TheVariants.{Running, Halted, Faulted}
-use Rattle.ultra_isa.specs.Step.{Core}
-use Rattle.ultra_model.specs.declared.Stop.{Stop}
-use Rattle.ultra_model.specs.Machine.{Settings, Machine, size, is_quiet}
-use Rattle.ultra_model.specs.Phases.{after}
+use Rattle.ultra_isa.specs.{declared.{Instr.Instr, MachineFault.{MachineFault, TheVariants.{AddressOutOfRange, PastEnd}}, Activity.{Activity, TheVariants.{Running, Halted, Faulted}}}, Step.Core}
+use Rattle.ultra_model.specs.{declared.Stop.Stop, Machine.{Settings, Machine, size, is_quiet}, Phases.after}
 use Rattle.ultra_model.specs.Text.{newline, op_text, request_text, mark_text, entry_text, reply_text, message_text, give_text, record_text, fault_text, activity_text, comma_separated}
 use Rattle.ultra_model.specs.Trace.{got_line, act_line, fault_line, place_line, held, unit_name, stage_name, by_number, by_stage, inp_line, pni_lines, req_lines, wait_lines, inp_lines, out_lines, rep_lines, state_text, cycle_text, ending_text, unless_zero, cell_line, cell_lines, register_text, registers_text, pe_line, pe_lines, end_text, cycle_count, cycles_text, all_cycles_text, last_state, trace}
 use Rattle.ultra_trace_text.proofs.Numbered.{by_number_more}

@@ -1,8 +1,7 @@
 -- a machine in the course of a run
 use Rattle.std.specs.Prelude.{◌≡◌, ℕ, List}
 use Rattle.ultra_isa.specs.declared.Instr.{Instr}
-use Rattle.ultra_model.specs.Machine.{Settings}
-use Rattle.ultra_model.specs.Phases.{after}
+use Rattle.ultra_model.specs.{Machine.Settings, Phases.after}
 use Rattle.ultra_block.specs.State.{BlocksState}
 
 -- it is the machine of these settings and this program after n cycles

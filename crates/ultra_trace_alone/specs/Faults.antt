@@ -1,7 +1,6 @@
 -- the faults of a run; this project's profile
 use Rattle.std.specs.Prelude.{ℕ}
-use Rattle.ultra_trace_alone.specs.declared.fault.RunFault.{RunFault}
-use Rattle.ultra_trace_alone.specs.declared.fault.RunFault.TheVariants.{Write, NoMemory, NoThread}
+use Rattle.ultra_trace_alone.specs.declared.fault.RunFault.{RunFault, TheVariants.{Write, NoMemory, NoThread}}
 
 -- how often the sink has failed in a run that ended with the fault
 abbrev pub sink_faults : RunFault → ℕ

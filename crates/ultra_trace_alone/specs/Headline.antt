@@ -2,11 +2,8 @@
 use Rattle.std.specs.Prelude.{◌≡◌, ◌==◌, ℕ, List, ◌++◌, codes, filter, map, nat_eq}
 use Rattle.std.specs.List.{slice_split, starts_with}
 use Rattle.ultra_isa.specs.declared.Instr.{Instr}
-use Rattle.ultra_model.specs.Machine.{Settings}
-use Rattle.ultra_serial_law.specs.Chain.{AreChained}
-use Rattle.ultra_serial_law.specs.Replies.{Delivery, deliveries, AreAllAnswers}
-use Rattle.ultra_model.specs.Text.{message_text}
-use Rattle.ultra_model.specs.Trace.{cycle_count, cycles_text, trace as trace_of}
+use Rattle.ultra_model.specs.{Machine.Settings, Text.message_text, Trace.{cycle_count, cycles_text, trace as trace_of}}
+use Rattle.ultra_serial_law.specs.{Chain.AreChained, Replies.{Delivery, deliveries, AreAllAnswers}}
 
 -- the lines of a text that begin with `got `; byte 10 ends a line
 unfoldable pub got_lines_in : List ℕ → List (List ℕ)

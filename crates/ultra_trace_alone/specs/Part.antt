@@ -1,12 +1,9 @@
 -- a part of a trace; this project's profile
 use Rattle.std.specs.Prelude.{ℕ, ◌+◌, List, [], ◌++◌, Bool, ◌&&◌, nat_le, if◌then◌else◌}
 use Rattle.ultra_isa.specs.declared.Instr.{Instr}
-use Rattle.ultra_model.specs.Machine.{Settings, Machine}
-use Rattle.ultra_model.specs.Phases.{after}
+use Rattle.ultra_model.specs.{Machine.{Settings, Machine}, Phases.after}
 use Rattle.ultra_model.specs.Trace.{by_number, cycle_count, cycle_line, cycle_text, end_text, events_text, first_line, last_state}
-use Rattle.ultra_trace_alone.specs.declared.part.CycleLines.{CycleLines}
-use Rattle.ultra_trace_alone.specs.declared.part.CycleLines.TheVariants.{All, Events, None}
-use Rattle.ultra_trace_alone.specs.declared.part.TracePart.{TracePart}
+use Rattle.ultra_trace_alone.specs.declared.part.{CycleLines.{CycleLines, TheVariants.{All, Events, None}}, TracePart.TracePart}
 
 -- all lines of a cycle, after which this is the machine; its first line and its events; or none
 abbrev pub chosen_lines : CycleLines → Settings → Machine → List ℕ

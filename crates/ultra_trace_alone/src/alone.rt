@@ -2,12 +2,9 @@
 
 ghost use Rattle.std.specs.Prelude.{◌≡◌, ◌+◌, ◌≤◌, ◌++◌, ◌||◌, false, OnOk, OnErr};
 ghost use Rattle.ultra_msg.specs.Bytes.{TakesPrefix};
-ghost use Rattle.ultra_model.specs.Machine.{is_quiet};
+ghost use Rattle.ultra_model.specs.{Machine.is_quiet, Trace.{by_number, cycle_count}, declared.config.TheConstants.MOST_CYCLES};
 ghost use Rattle.ultra_io.specs.TextBuffer.{Writes, has_failed};
-ghost use Rattle.ultra_model.specs.Trace.{by_number, cycle_count};
-ghost use Rattle.ultra_trace_alone.specs.BlocksAfter.{IsAfter};
-ghost use Rattle.ultra_trace_alone.specs.RunText.{run_text};
-ghost use Rattle.ultra_model.specs.declared.config.TheConstants.{MOST_CYCLES};
+ghost use Rattle.ultra_trace_alone.specs.{BlocksAfter.IsAfter, RunText.run_text};
 
 use crate::text::RunText;
 use ultra_block::Blocks;

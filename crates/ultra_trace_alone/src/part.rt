@@ -2,8 +2,7 @@
 
 ghost use Rattle.std.specs.Prelude.{◌≡◌, ⊤, ◌+◌, ◌<◌, ◌≤◌, ◌++◌, codes};
 ghost use Rattle.ultra_io.specs.TextBuffer.{Writes};
-ghost use Rattle.ultra_model.specs.Phases.{after};
-ghost use Rattle.ultra_model.specs.Trace.{cycle_text, first_line};
+ghost use Rattle.ultra_model.specs.{Phases.after, Trace.{cycle_text, first_line}};
 ghost use Rattle.ultra_trace_alone.specs.Part.{chosen_lines, part_lines, trace_end};
 
 use crate::text::RunText;

@@ -3,8 +3,7 @@
 ghost use Rattle.std.specs.Prelude.{◌≡◌, ◌≤◌, true, IfOk, OnOk};
 ghost use Rattle.ultra_model.specs.Ranges.{AreInRange};
 ghost use Rattle.ultra_block.specs.Cut.{is_partition};
-ghost use Rattle.ultra_trace_alone.specs.BlocksAfter.{IsAfter};
-ghost use Rattle.ultra_trace_alone.specs.Dealt.{IsDealtOut};
+ghost use Rattle.ultra_trace_alone.specs.{BlocksAfter.IsAfter, Dealt.IsDealtOut};
 
 use std::alloc::{AllocError, Global};
 use ultra_block::{Blocks, PartitionFault, unit_count};

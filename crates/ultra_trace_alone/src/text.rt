@@ -3,9 +3,7 @@
 ghost use Rattle.std.specs.Prelude.{◌≡◌, ℕ, ◌+◌, ◌<◌, List};
 ghost use Rattle.ultra_io.specs.TextBuffer.{Writes};
 ghost use Rattle.ultra_isa.specs.declared.Instr.{Instr};
-ghost use Rattle.ultra_model.specs.Machine.{Settings};
-ghost use Rattle.ultra_model.specs.Trace.{cycle_count};
-ghost use Rattle.ultra_model.specs.declared.config.TheConstants.{MOST_CYCLES};
+ghost use Rattle.ultra_model.specs.{Machine.Settings, Trace.cycle_count, declared.config.TheConstants.MOST_CYCLES};
 ghost use Rattle.ultra_trace_alone.specs.BlocksAfter.{IsAfter};
 
 use ultra_block::Blocks;

@@ -1,17 +1,13 @@
 -- units that hold nothing have no line
 use Rattle.std.proofs.Common.{ℕ, ◌≡◌, ◌+◌, ◌-◌, ◌*◌, ◌/◌, ◌%◌, ◌^◌, ◌<◌, List, [], false, ◌∙◌, sym, arith}
-use Rattle.std.proofs.Math.Nat.{mod-lt}
-use Rattle.std.proofs.lemmas.Nat.{div-add-mod', div_below, pow_pos}
+use Rattle.std.proofs.{Math.Nat.mod-lt, lemmas.Nat.{div-add-mod', div_below, pow_pos}}
 use Rattle.ultra_model.specs.Machine.{Machine}
 use Rattle.ultra_topology.specs.Numbers.{switch_count, switch_number, module_number, element_number}
-use Rattle.ultra_block.specs.Held.{Held}
-use Rattle.ultra_block.specs.Held.TheVariants.{Reply, Request, Record}
-use Rattle.ultra_block.specs.Holding.{holds}
+use Rattle.ultra_block.specs.{Held.{Held, TheVariants.{Reply, Request, Record}}, Holding.holds}
 use Rattle.ultra_block.proofs.NothingHeld.{no_replies, no_requests, no_records, no_reply, no_request, none_pending}
 use Rattle.ultra_model.specs.Trace.{pni_lines, req_lines, wait_lines, inp_lines, out_lines, rep_lines}
 use Rattle.ultra_trace_text.specs.Ports.{port_line}
-use Rattle.ultra_trace_text.proofs.Rows.{lines_at}
-use Rattle.ultra_trace_text.proofs.Skipped.{two_lines}
+use Rattle.ultra_trace_text.proofs.{Rows.lines_at, Skipped.two_lines}
 
 two_none : (line : ℕ → List ℕ) (k : ℕ) → line (2 * k) ≡ [] → line (2 * k + 1) ≡ [] → two_lines line k ≡ []
 two_none line k first second = cc

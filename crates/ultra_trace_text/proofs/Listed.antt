@@ -1,12 +1,9 @@
 -- the texts of the entries of one line
 use Rattle.std.proofs.Common.{ℕ, zero, suc, ◌≡◌, ◌+◌, ◌<◌, ◌≤◌, List, [], ◌∷◌, ◌++◌, length, take, Option, Some, arith, append_assoc, append-nil, codes, slice_get}
-use Rattle.std.specs.List.{flat_map}
-use Rattle.std.specs.Option.{option_map}
-use Rattle.ultra_msg.specs.declared.Request.{Request}
-use Rattle.ultra_msg.specs.declared.ReplyMessage.{ReplyMessage}
+use Rattle.std.specs.{List.flat_map, Option.option_map}
+use Rattle.ultra_msg.specs.declared.{Request.Request, ReplyMessage.ReplyMessage}
 use Rattle.ultra_mem.specs.declared.Placed.{Placed}
-use Rattle.ultra_model.specs.Text.{newline, comma_separated, request_text, message_text}
-use Rattle.ultra_model.specs.Trace.{place_line, unit_name, inp_line, out_line, unless_zero}
+use Rattle.ultra_model.specs.{Text.{newline, comma_separated, request_text, message_text}, Trace.{place_line, unit_name, inp_line, out_line, unless_zero}}
 
 module _ {X : Type 0} (text : X → List ℕ) where
   others : List X → List ℕ

@@ -1,10 +1,8 @@
 -- lines in order
 use Rattle.std.proofs.Common.{ℕ, zero, suc, ◌≡◌, ◌+◌, List, [], ◌∷◌, ◌++◌, get_or, refl, ◌∙◌, ap, arith, append-nil, add-one, slice_get}
-use Rattle.std.specs.Option.{unwrap_or}
-use Rattle.std.specs.List.{flat_map, range_with_len}
+use Rattle.std.specs.{Option.unwrap_or, List.{flat_map, range_with_len}}
 use Rattle.std.proofs.lemmas.List.Concat.{flat_map-append}
-use Rattle.ultra_io.specs.declared.text_buffer.TextBuffer.{TextBuffer}
-use Rattle.ultra_io.specs.TextBuffer.{Writes}
+use Rattle.ultra_io.specs.{declared.text_buffer.TextBuffer.TextBuffer, TextBuffer.Writes}
 use Rattle.ultra_model.specs.Trace.{by_number}
 use Rattle.ultra_io.proofs.Writing.{◌then◌}
 

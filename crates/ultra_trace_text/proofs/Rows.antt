@@ -1,12 +1,10 @@
 -- lines of switches, one stage after another
 use Rattle.std.proofs.Common.{ℕ, zero, suc, ◌≡◌, ◌+◌, ◌*◌, ◌/◌, ◌%◌, ◌<◌, ◌≤◌, List, refl, arith}
 use Rattle.std.specs.List.{range_with_len, flat_map}
-use Rattle.std.proofs.lemmas.List.Concat.{flat_map-append}
-use Rattle.std.proofs.lemmas.Nat.{div-mul-add, mod-mul-add}
+use Rattle.std.proofs.lemmas.{List.Concat.flat_map-append, Nat.{div-mul-add, mod-mul-add}}
 use Rattle.ultra_model.specs.Trace.{by_number}
 use Rattle.ultra_holders.proofs.Skipped.{range_parts}
-use Rattle.ultra_trace_text.proofs.Numbered.{by_number_more}
-use Rattle.ultra_trace_text.proofs.Skipped.{two_lines, by_twos}
+use Rattle.ultra_trace_text.proofs.{Numbered.by_number_more, Skipped.{two_lines, by_twos}}
 
 -- the two lines of switch n, where a stage has w switches
 abbrev pub lines_at : ℕ → (ℕ → ℕ → List ℕ) → ℕ → List ℕ

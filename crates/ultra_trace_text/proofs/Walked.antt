@@ -1,13 +1,11 @@
 -- the lines of the units of a kind, by a walk over those that hold something
 use Rattle.std.proofs.Common.{ℕ, ◌≡◌, ◌+◌, ◌<◌, List, [], ◌∷◌, false, arith}
 use Rattle.ultra_topology.specs.Set.{has_unit}
-use Rattle.ultra_io.specs.declared.text_buffer.TextBuffer.{TextBuffer}
-use Rattle.ultra_io.specs.TextBuffer.{Writes}
+use Rattle.ultra_io.specs.{declared.text_buffer.TextBuffer.TextBuffer, TextBuffer.Writes}
 use Rattle.ultra_model.specs.Trace.{by_number}
 use Rattle.ultra_holders.specs.Holders.{numbers_in}
 use Rattle.ultra_holders.proofs.Skipped.{next_small}
-use Rattle.ultra_trace_text.proofs.Skipped.{skipped}
-use Rattle.ultra_trace_text.proofs.Yielded.{AreWritten, all_written}
+use Rattle.ultra_trace_text.proofs.{Skipped.skipped, Yielded.{AreWritten, all_written}}
 
 -- by a walk over those that are in a set the lines of the n units of a kind, whose first has number base among all
 module _ (units : List ℕ) (base n : ℕ) {S : Type 0} {taken : S → List ℕ} {failures : S → ℕ} {line : ℕ → List ℕ} {came left : List ℕ} {s t : TextBuffer S}

@@ -3,8 +3,7 @@ use Rattle.std.specs.Prelude.{ℕ, ◌≡◌, List, [], ◌∷◌, ◌++◌, cod
 use Rattle.std.specs.Fmt.{digits}
 use Rattle.ultra_isa.specs.declared.Instr.{Instr}
 use Rattle.ultra_isa.specs.declared.Instr.TheVariants as instr
-use Rattle.ultra_model.specs.Places.{places}
-use Rattle.ultra_model.specs.Machine.{Settings, start}
+use Rattle.ultra_model.specs.{Places.places, Machine.{Settings, start}}
 use Rattle.ultra_model.specs.Phases.{after, cycle, reply_phase, memory_phase, request_phase, processor_phase, arriving_reply, arriving_request}
 use Rattle.ultra_model.specs.Trace.{trace, cycle_text, end_text, cycle_count, registers_text, all_cycles_text, last_state}
 

@@ -1,9 +1,6 @@
 -- the units that hold something
 use Rattle.std.specs.Prelude.{ℕ, List}
-use Rattle.ultra_block.specs.{IsSetOf}
-use Rattle.ultra_block.specs.Held.{Held}
-use Rattle.ultra_block.specs.Holding.{holds}
-use Rattle.ultra_block.specs.State.{BlocksState}
+use Rattle.ultra_block.specs.{IsSetOf, Held.Held, Holding.holds, State.BlocksState}
 
 -- the set has exactly the units that hold it
 abbrev pub AreHolders : BlocksState → Held → List ℕ → Type 0

@@ -1,9 +1,7 @@
 -- lines of what switches hold
 use Rattle.std.specs.Prelude.{ℕ, List}
-use Rattle.ultra_model.specs.Machine.{Machine}
-use Rattle.ultra_model.specs.Trace.{req_lines, wait_lines, rep_lines}
-use Rattle.ultra_block.specs.Held.{Held}
-use Rattle.ultra_block.specs.Held.TheVariants.{Reply, Request, Record}
+use Rattle.ultra_model.specs.{Machine.Machine, Trace.{req_lines, wait_lines, rep_lines}}
+use Rattle.ultra_block.specs.Held.{Held, TheVariants.{Reply, Request, Record}}
 
 -- the line of what a switch holds of one kind, at a position of a stage
 abbrev pub port_line : Held → Machine → ℕ → ℕ → List ℕ

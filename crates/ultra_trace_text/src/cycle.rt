@@ -1,10 +1,9 @@
 //! The lines of a cycle.
 
 ghost use Rattle.std.specs.Prelude.{◌≡◌, ◌+◌, ◌<◌, ◌++◌, OnOk, OnErr, codes, decimal};
-ghost use Rattle.ultra_model.specs.Text.{newline};
+ghost use Rattle.ultra_model.specs.{Text.newline, Trace.{cycle_line, cycle_text, events_text}};
 ghost use Rattle.ultra_msg.specs.Bytes.{TakesPrefix};
 ghost use Rattle.ultra_io.specs.TextBuffer.{Writes};
-ghost use Rattle.ultra_model.specs.Trace.{cycle_line, cycle_text, events_text};
 
 use crate::events::put_events;
 use crate::state::put_state;

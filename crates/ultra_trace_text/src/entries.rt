@@ -1,8 +1,7 @@
 //! The entries of one line, with commas between them.
 
 ghost use Rattle.std.specs.Prelude.{◌≡◌, ℕ, ◌+◌, ◌<◌, ◌≤◌, List, ◌++◌, Some, length, slice_get};
-ghost use Rattle.ultra_io.specs.TextBuffer.{Ends, GoesOn};
-ghost use Rattle.ultra_io.specs.declared.filled_bytes.TheConstants.{BUFFER_BYTES};
+ghost use Rattle.ultra_io.specs.{TextBuffer.{Ends, GoesOn}, declared.filled_bytes.TheConstants.BUFFER_BYTES};
 ghost use Rattle.ultra_model.specs.Text.{entry_text, comma_separated, message_text, newline, record_text, request_text};
 
 use crate::texts::{end_line, write_entry, write_message, write_record, write_request};

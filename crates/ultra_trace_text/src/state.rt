@@ -5,8 +5,7 @@ ghost use Rattle.ultra_model.specs.Machine.{size};
 ghost use Rattle.ultra_topology.specs.Numbers.{IsSmall, switch_count};
 ghost use Rattle.ultra_io.specs.TextBuffer.{Writes};
 ghost use Rattle.ultra_block.specs.Held.TheVariants.{Record, Reply, Request};
-ghost use Rattle.ultra_trace_text.specs.Holders.{AreHolders};
-ghost use Rattle.ultra_trace_text.specs.Ports.{port_line};
+ghost use Rattle.ultra_trace_text.specs.{Holders.AreHolders, Ports.port_line};
 ghost use Rattle.ultra_model.specs.Trace.{by_number, by_stage, pni_lines, inp_lines, out_lines, state_text};
 
 use crate::places::{put_inp, put_out, put_pni, put_rep, put_req, put_wait};

@@ -3,8 +3,7 @@
 ghost use Rattle.std.specs.Prelude.{◌≡◌, ℕ, ◌+◌, ◌<◌, ◌≤◌, List, ◌++◌, codes, decimal};
 ghost use Rattle.ultra_model.specs.Text.{op_text, identity_text, request_text, mark_text, entry_text, reply_text, message_text, give_text, record_text, fault_text, activity_text, newline};
 ghost use Rattle.ultra_model.specs.Trace.{unit_name, stage_name};
-ghost use Rattle.ultra_io.specs.TextBuffer.{Begins, Ends, GoesOn, Writes};
-ghost use Rattle.ultra_io.specs.declared.filled_bytes.TheConstants.{BUFFER_BYTES};
+ghost use Rattle.ultra_io.specs.{TextBuffer.{Begins, Ends, GoesOn, Writes}, declared.filled_bytes.TheConstants.BUFFER_BYTES};
 
 use ultra_io::TextBuffer;
 use ultra_isa::{Activity, MachineFault};

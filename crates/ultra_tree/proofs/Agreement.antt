@@ -1,21 +1,14 @@
 -- the slots and the order say the same of the trees that are held, as trees come and go
 use Rattle.std.proofs.Common.{◌≡◌, ◌≢◌, ⊎_elim, ℕ, ◌+◌, ◌*◌, ◌-◌, ◌<◌, ◌≤◌, List, [], ◌∷◌, ◌++◌, length, drop, set, replicate, true, ◌==◌, ◌&&◌, refl, arith, sym, ap, subst, ◌∙◌, Some, None}
 use Rattle.std.specs.Prelude.{slice_get, Option, not, is_some, IfSome, IfNone, ◌↔◌}
-use Rattle.std.proofs.lemmas.Bool.{cases_Bool}
-use Rattle.std.proofs.lemmas.Bool.Decides.{nat_tests}
-use Rattle.std.proofs.lemmas.List.{length-replicate, length-set, length-drop}
-use Rattle.std.proofs.lemmas.Option.{slice_get_within}
+use Rattle.std.proofs.lemmas.{Bool.{cases_Bool, Decides.nat_tests}, List.{length-replicate, length-set, length-drop}, Option.slice_get_within}
 use Rattle.ultra_model.specs.Balance.{weight}
 use Rattle.ultra_serial_law.specs.Tree.{Tree as SerialTree, Kept, kept, is_under, tree_of, without}
 use Rattle.ultra_serial_law.specs.Explicable.{held_by}
-use Rattle.ultra_tree.specs.Seen.{seen}
+use Rattle.ultra_tree.specs.{Seen.seen, declared.{trees.Tree.Tree, slots.Slot.{Slot, TheVariants.{Free, Held}}}}
 use Rattle.ultra_tree.specs.Slots.{trees_under, trees_in_slot, trees_in_slots, trees_in_row, IsFirstFor, IsFreePlace, AreSlotsOf}
-use Rattle.ultra_tree.specs.declared.trees.Tree.{Tree}
-use Rattle.ultra_tree.specs.declared.slots.Slot.{Slot}
-use Rattle.ultra_tree.specs.declared.slots.Slot.TheVariants.{Free, Held}
-use Rattle.ultra_tree.proofs.Counted.{equal_test, other_test, equal_of, apart_of}
+use Rattle.ultra_tree.proofs.{Counted.{equal_test, other_test, equal_of, apart_of}, Rows.{slots_around, slots_beside, slots_changed, slots_free, rows_apart}}
 use Rattle.ultra_tree.proofs.Under.{under_here, under_later, under_append, none_under, first_under, under_none, rest_under, rest_others, other_cell, other_pe, held_append, held_rest, held_others}
-use Rattle.ultra_tree.proofs.Rows.{slots_around, slots_beside, slots_changed, slots_free, rows_apart}
 
 -- what is true of one identity, of the others of its processing element and of those of another one
 by_identity : (P : ℕ → ℕ → Type 0) (p a : ℕ) → P p a → ((b : ℕ) → a ≢ b → P p b) → ((q b : ℕ) → p ≢ q → P q b) → (q b : ℕ) → P q b

@@ -1,9 +1,7 @@
 -- how many trees are held: at most m for each of n processing elements (PEs), so at most n * m
 use Rattle.std.proofs.Common.{◌≡◌, ◌≢◌, ℕ, zero, suc, ◌+◌, ◌*◌, ◌<◌, ◌≤◌, List, [], ◌∷◌, length, true, false, ◌==◌, refl, arith, sym, ap, subst, ⊎_elim}
-use Rattle.std.specs.Prelude.{IsSome}
-use Rattle.std.specs.List.{AllByRecursion}
-use Rattle.std.proofs.lemmas.Bool.{cases_Bool}
-use Rattle.std.proofs.lemmas.Bool.Decides.{nat_tests}
+use Rattle.std.specs.{Prelude.IsSome, List.AllByRecursion}
+use Rattle.std.proofs.lemmas.Bool.{cases_Bool, Decides.nat_tests}
 use Rattle.ultra_serial_law.specs.Tree.{Tree, Kept, kept, is_under, tree_of, without}
 use Rattle.ultra_serial_law.specs.Explicable.{held_by}
 use Rattle.ultra_model.specs.Balance.{weight}

@@ -2,10 +2,7 @@
 use Rattle.std.proofs.Common.{◌≡◌, ℕ, zero, suc, ◌+◌, ◌-◌, ◌<◌, ◌≤◌, Bool, true, false, nat_lt, arith, ap, ⊎_elim}
 use Rattle.std.proofs.lemmas.Bool.{cases_lt}
 use Rattle.ultra_serial_law.specs.Tree.{height}
-use Rattle.ultra_tree.specs.Counts.{leaf_count}
-use Rattle.ultra_tree.specs.Places.{depth_at, depth_of_first}
-use Rattle.ultra_tree.specs.Seen.{seen_counted}
-use Rattle.ultra_tree.specs.declared.trees.CountedNode.{CountedNode, Pair'}
+use Rattle.ultra_tree.specs.{Counts.leaf_count, Places.{depth_at, depth_of_first}, Seen.seen_counted, declared.trees.CountedNode.{CountedNode, Pair'}}
 use Rattle.ultra_tree.specs.declared.trees.CountedNode as node
 use Rattle.ultra_tree.proofs.Places.{is_below, is_not_below}
 

@@ -1,7 +1,6 @@
 -- trees that are held: one that is taken, one that is put last
 use Rattle.std.proofs.Common.{◌≡◌, ◌≢◌, ℕ, List, [], ◌∷◌, ◌++◌, true, false, ◌==◌, ◌&&◌, refl, arith, sym, ap, ◌∙◌, ⊎_elim, Some, None}
-use Rattle.std.proofs.lemmas.Bool.{cases_Bool}
-use Rattle.std.proofs.lemmas.Bool.Decides.{nat_tests}
+use Rattle.std.proofs.lemmas.Bool.{cases_Bool, Decides.nat_tests}
 use Rattle.ultra_serial_law.specs.Tree.{Tree, Kept, is_under, tree_of, without}
 use Rattle.ultra_serial_law.proofs.Latest.{tree_here, tree_later, rest_here, rest_later}
 

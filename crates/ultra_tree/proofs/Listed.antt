@@ -2,10 +2,7 @@
 use Rattle.std.proofs.Common.{◌≡◌, ℕ, zero, suc, ◌-◌, ◌<◌, ◌≤◌, List, [], ◌∷◌, ◌++◌, length, map, take, true, false, Some, arith, ap, refl, ◌∙◌, length-append}
 use Rattle.std.specs.Prelude.{slice_get}
 use Rattle.ultra_serial_law.specs.Tree.{leaves}
-use Rattle.ultra_tree.specs.Counts.{leaf_count}
-use Rattle.ultra_tree.specs.Places.{leaves_in}
-use Rattle.ultra_tree.specs.Seen.{at_cell, seen_counted}
-use Rattle.ultra_tree.specs.declared.trees.CountedNode.{CountedNode, Pair'}
+use Rattle.ultra_tree.specs.{Counts.leaf_count, Places.leaves_in, Seen.{at_cell, seen_counted}, declared.trees.CountedNode.{CountedNode, Pair'}}
 use Rattle.ultra_tree.specs.declared.trees.CountedNode as node
 
 -- ---- lists

@@ -1,10 +1,8 @@
 -- the counts of a pair, and the place of a leaf in its parts
 use Rattle.std.proofs.Common.{◌≡◌, ℕ, ◌<◌, ◌≤◌, true, false, ◌&&◌, ◌==◌, nat_lt, arith}
-use Rattle.std.proofs.lemmas.Bool.{eqb-true}
-use Rattle.std.proofs.lemmas.Bool.Decides.{nat_tests}
+use Rattle.std.proofs.lemmas.Bool.{eqb-true, Decides.nat_tests}
 use Rattle.ultra_model.proofs.Counting.{both_true}
-use Rattle.ultra_tree.specs.Counts.{leaf_count, has_right_counts, HasRightCounts}
-use Rattle.ultra_tree.specs.declared.trees.CountedNode.{CountedNode, Pair'}
+use Rattle.ultra_tree.specs.{Counts.{leaf_count, has_right_counts, HasRightCounts}, declared.trees.CountedNode.{CountedNode, Pair'}}
 use Rattle.ultra_tree.specs.declared.trees.CountedNode as node
 
 pub is_below : (a b : ℕ) → a < b → nat_lt a b ≡ true

@@ -1,20 +1,12 @@
 -- what slots hold, where one of them changes
 use Rattle.std.proofs.Common.{◌≡◌, ◌≢◌, ⊎_elim, ℕ, zero, suc, ◌+◌, ◌*◌, ◌-◌, ◌^◌, ◌<◌, ◌≤◌, List, [], ◌∷◌, ◌++◌, length, set, get_or, replicate, true, false, ◌==◌, ◌&&◌, refl, arith, sym, ap, ◌∙◌, append_assoc, Some}
 use Rattle.std.specs.Prelude.{slice_get}
-use Rattle.std.proofs.lemmas.Bool.{cases_lt}
-use Rattle.std.proofs.lemmas.List.{append-nil}
-use Rattle.std.proofs.lemmas.Nat.{row_fits as fit_rows}
-use Rattle.std.proofs.lemmas.Option.{slice_get_past, slice_get_read}
-use Rattle.std.proofs.Math.Nat.{mul-le-mul_right}
+use Rattle.std.proofs.{lemmas.{Bool.cases_lt, List.append-nil, Nat.row_fits as fit_rows, Option.{slice_get_past, slice_get_read}}, Math.Nat.mul-le-mul_right}
 use Rattle.ultra_model.specs.Balance.{weight}
-use Rattle.ultra_serial_law.specs.Tree.{kept}
-use Rattle.ultra_serial_law.specs.Explicable.{held_by}
-use Rattle.ultra_tree.specs.Seen.{seen}
+use Rattle.ultra_serial_law.specs.{Tree.kept, Explicable.held_by}
+use Rattle.ultra_tree.specs.{Seen.seen, declared.slots.Slot.{Slot, TheVariants.{Free, Held}}}
 use Rattle.ultra_tree.specs.Slots.{trees_under, is_slot_for, is_slot_free, trees_in_slot, trees_in_slots, IsFirstFor}
-use Rattle.ultra_tree.specs.declared.slots.Slot.{Slot}
-use Rattle.ultra_tree.specs.declared.slots.Slot.TheVariants.{Free, Held}
-use Rattle.ultra_tree.proofs.Counted.{equal_test, equal_of}
-use Rattle.ultra_tree.proofs.Under.{and_false, under_later, under_append, held_append}
+use Rattle.ultra_tree.proofs.{Counted.{equal_test, equal_of}, Under.{and_false, under_later, under_append, held_append}}
 
 -- ---- reading a list that is changed at a place
 module _ {X : Type 0} where

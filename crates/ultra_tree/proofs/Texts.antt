@@ -1,10 +1,7 @@
 -- the text of a tree is that of its places, in order
 use Rattle.std.proofs.Common.{◌≡◌, ℕ, zero, suc, ◌+◌, ◌-◌, ◌<◌, ◌≤◌, List, [], ◌++◌, Bool, true, false, nat_lt, Option, Some, None, codes, arith, ap, refl, sym, ◌∙◌, append_assoc, append-nil}
-use Rattle.ultra_tree.specs.Counts.{leaf_count}
-use Rattle.ultra_tree.specs.Places.{piece, pieces}
-use Rattle.ultra_tree.specs.Seen.{seen_counted}
+use Rattle.ultra_tree.specs.{Counts.leaf_count, Places.{piece, pieces}, Seen.seen_counted, declared.trees.CountedNode.{CountedNode, Pair'}}
 use Rattle.ultra_tree.specs.Text.{head_text, order_mark, opening, closings, order_mark_text, tree_text}
-use Rattle.ultra_tree.specs.declared.trees.CountedNode.{CountedNode, Pair'}
 use Rattle.ultra_tree.specs.declared.trees.CountedNode as node
 use Rattle.ultra_tree.proofs.Places.{is_below, is_not_below, some_leaf}
 

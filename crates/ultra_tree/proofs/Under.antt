@@ -1,13 +1,11 @@
 -- the trees under an identity, and how many are those of a processing element
 use Rattle.std.proofs.Common.{◌≡◌, ◌≢◌, ℕ, ◌+◌, List, [], ◌∷◌, ◌++◌, drop, true, false, ◌==◌, ◌&&◌, Bool, refl, arith, sym, ap, ◌∙◌, ⊎_elim, Some, None}
 use Rattle.std.proofs.lemmas.Bool.{cases_Bool}
-use Rattle.ultra_serial_law.specs.Tree.{Tree, Kept, is_under, tree_of, without}
-use Rattle.ultra_serial_law.specs.Explicable.{held_by}
+use Rattle.ultra_serial_law.specs.{Tree.{Tree, Kept, is_under, tree_of, without}, Explicable.held_by}
 use Rattle.ultra_model.specs.Balance.{weight}
 use Rattle.ultra_serial_law.proofs.Latest.{tree_here, tree_later, rest_here, rest_later}
 use Rattle.ultra_tree.specs.Slots.{trees_under}
-use Rattle.ultra_tree.proofs.Kept.{same_identity}
-use Rattle.ultra_tree.proofs.Counted.{equal_test, other_test}
+use Rattle.ultra_tree.proofs.{Kept.same_identity, Counted.{equal_test, other_test}}
 
 module _ (p a : ℕ) (k : Kept) (ks : List Kept) where
   under_at : Bool → List Tree

@@ -1,12 +1,9 @@
 -- what an explainer holds, and when it fails
 use Rattle.std.specs.Prelude.{◌≡◌, ℕ, ◌<◌, ◌≤◌, List, [], Bool, true, false}
 use Rattle.std.specs.List.{AllByRecursion}
-use Rattle.ultra_msg.specs.declared.Event.{Event}
-use Rattle.ultra_msg.specs.declared.Event.TheVariants.{Delivered, Served, Combined, Issued}
-use Rattle.ultra_serial_law.specs.Tree.{Kept}
-use Rattle.ultra_serial_law.specs.Explicable.{held_by}
-use Rattle.ultra_tree.specs.declared.explaining.ExplainFault.{ExplainFault}
-use Rattle.ultra_tree.specs.declared.explaining.ExplainFault.TheVariants.{Full, Spent}
+use Rattle.ultra_msg.specs.declared.Event.{Event, TheVariants.{Delivered, Served, Combined, Issued}}
+use Rattle.ultra_serial_law.specs.{Tree.Kept, Explicable.held_by}
+use Rattle.ultra_tree.specs.declared.explaining.ExplainFault.{ExplainFault, TheVariants.{Full, Spent}}
 
 -- the trees are those of requests of processing elements below n, at most m of each
 pub record AreWithin (n m : ℕ) (ks : List Kept) : Type 0 where

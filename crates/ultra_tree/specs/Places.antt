@@ -1,9 +1,6 @@
 -- the leaves of a tree by their places
 use Rattle.std.specs.Prelude.{ℕ, zero, suc, ◌+◌, ◌-◌, List, [], ◌∷◌, ◌++◌, max, Bool, true, false, nat_lt, Option, Some}
-use Rattle.ultra_tree.specs.Counts.{leaf_count}
-use Rattle.ultra_tree.specs.Text.{leaf_text, opening, closings, order_mark_text}
-use Rattle.ultra_tree.specs.declared.listing.Leaf.{Leaf}
-use Rattle.ultra_tree.specs.declared.trees.CountedNode.{CountedNode, Pair'}
+use Rattle.ultra_tree.specs.{Counts.leaf_count, Text.{leaf_text, opening, closings, order_mark_text}, declared.{listing.Leaf.Leaf, trees.CountedNode.{CountedNode, Pair'}}}
 use Rattle.ultra_tree.specs.declared.trees.CountedNode as node
 
 module _ {A : Type 0} where

@@ -1,14 +1,9 @@
 -- how the trees of the code are seen as those of the definition
 use Rattle.std.specs.Prelude.{ℕ}
-use Rattle.ultra_serial_law.specs.Tree.{Tree as SerialTree, leaf, pair}
-use Rattle.ultra_serial_law.specs.declared.records.NamedRequest.{NamedRequest}
-use Rattle.ultra_tree.specs.declared.listing.Leaf.{Leaf}
-use Rattle.ultra_tree.specs.declared.trees.CountedNode.{CountedNode, Pair'}
+use Rattle.ultra_serial_law.specs.{Tree.{Tree as SerialTree, leaf, pair}, declared.records.NamedRequest.NamedRequest}
+use Rattle.ultra_tree.specs.declared.{listing.Leaf.Leaf, trees.{CountedNode.{CountedNode, Pair'}, Tree.Tree}, nodes.{Node.Node, Part.Part}}
 use Rattle.ultra_tree.specs.declared.trees.CountedNode as node
-use Rattle.ultra_tree.specs.declared.trees.Tree.{Tree}
-use Rattle.ultra_tree.specs.declared.nodes.Node.{Node}
 use Rattle.ultra_tree.specs.declared.nodes.Node.TheVariants as matched
-use Rattle.ultra_tree.specs.declared.nodes.Part.{Part}
 
 -- a leaf with the cell that its request is for
 abbrev pub at_cell : ℕ → Leaf → NamedRequest

@@ -1,13 +1,7 @@
 -- the trees that are held, by their slots and in their order
 use Rattle.std.specs.Prelude.{◌≡◌, ℕ, zero, suc, ◌+◌, ◌*◌, ◌-◌, ◌<◌, ◌≤◌, List, [], ◌∷◌, ◌++◌, length, Bool, true, false, ◌==◌, Option, Some, None, slice_get}
-use Rattle.ultra_serial_law.specs.Tree.{Tree as SerialTree, Kept, kept, is_under, without}
-use Rattle.ultra_serial_law.specs.Explicable.{held_by}
-use Rattle.ultra_tree.specs.Seen.{seen}
-use Rattle.ultra_tree.specs.declared.trees.Tree.{Tree}
-use Rattle.ultra_tree.specs.declared.slots.Slot.{Slot}
-use Rattle.ultra_tree.specs.declared.slots.Slot.TheVariants.{Free, Held}
-use Rattle.ultra_tree.specs.declared.order.Order.{Order}
-use Rattle.ultra_tree.specs.declared.order.Order.TheVariants.{Empty, Put', Taken'}
+use Rattle.ultra_serial_law.specs.{Tree.{Tree as SerialTree, Kept, kept, is_under, without}, Explicable.held_by}
+use Rattle.ultra_tree.specs.{Seen.seen, declared.{trees.Tree.Tree, slots.Slot.{Slot, TheVariants.{Free, Held}}, order.Order.{Order, TheVariants.{Empty, Put', Taken'}}}}
 
 -- the trees under an identity, in their order
 abbrev pub trees_under : ℕ → ℕ → List Kept → List SerialTree

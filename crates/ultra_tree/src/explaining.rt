@@ -3,11 +3,8 @@
 ghost use Rattle.std.specs.Prelude.{◌≡◌, ◌≢◌, ℕ, ◌*◌, ◌^◌, ◌<◌, ◌≤◌, [], ◌∷◌, ◌↔◌, None, Some, false, true, not, option_map, IfOk, IfErr, IsSome, IsTrue, OnOk};
 ghost use Rattle.ultra_model.specs.Machine.{size};
 ghost use Rattle.ultra_msg.specs.declared.Event.TheVariants.{Combined};
-ghost use Rattle.ultra_serial_law.specs.Tree.{tree_of as tree_in, kept, without, trees_after};
-ghost use Rattle.ultra_serial_law.specs.Explicable.{IsAbsorbable, served_tree, held_by};
-ghost use Rattle.ultra_tree.specs.Absorb.{event_cell, nothing_absorbed, ExplainsExplainFault};
-ghost use Rattle.ultra_tree.specs.Seen.{seen};
-ghost use Rattle.ultra_tree.specs.declared.explaining.ExplainFault.TheVariants.{Full, Spent};
+ghost use Rattle.ultra_serial_law.specs.{Tree.{tree_of as tree_in, kept, without, trees_after}, Explicable.{IsAbsorbable, served_tree, held_by}};
+ghost use Rattle.ultra_tree.specs.{Absorb.{event_cell, nothing_absorbed, ExplainsExplainFault}, Seen.seen, declared.explaining.ExplainFault.TheVariants.{Full, Spent}};
 
 use crate::order::Order;
 use crate::slots::{Slot, add_free, count_of, free_place, place_of};
@@ -43,11 +40,8 @@ pub struct Explainer<A: Allocator> {
 }
 
 impl<A: Allocator> Model for Explainer<A> {
-    ghost use Rattle.std.specs.Prelude.{◌≤◌, ◌*◌};
-    ghost use Rattle.std.specs.Vec.{vec_capacity};
-    ghost use Rattle.ultra_tree.specs.Absorb.{ExplainerState, AreWithin};
-    ghost use Rattle.ultra_tree.specs.Slots.{AreSlotsOf};
-    ghost use Rattle.ultra_tree.specs.Stored.{explained_code};
+    ghost use Rattle.std.specs.{Prelude.{◌≤◌, ◌*◌}, Vec.vec_capacity};
+    ghost use Rattle.ultra_tree.specs.{Absorb.{ExplainerState, AreWithin}, Slots.AreSlotsOf, Stored.explained_code};
 
     ghost Value = { ExplainerState };
 

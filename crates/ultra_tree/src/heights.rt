@@ -2,9 +2,7 @@
 
 ghost use Rattle.std.specs.Prelude.{◌≡◌, ℕ, ◌<◌, ◌^◌};
 ghost use Rattle.ultra_serial_law.specs.Tree.{height as height_of};
-ghost use Rattle.ultra_tree.specs.Counts.{leaf_count, HasRightCounts};
-ghost use Rattle.ultra_tree.specs.Places.{depth_at};
-ghost use Rattle.ultra_tree.specs.Seen.{seen};
+ghost use Rattle.ultra_tree.specs.{Counts.{leaf_count, HasRightCounts}, Places.depth_at, Seen.seen};
 
 use crate::trees::{CountedNode, Tree};
 use std::alloc::Allocator;

@@ -2,9 +2,7 @@
 
 ghost use Rattle.std.specs.Prelude.{◌≡◌, ℕ, ◌<◌, Some, map, slice_get, IfOk};
 ghost use Rattle.ultra_serial_law.specs.Tree.{leaves as leaves_of};
-ghost use Rattle.ultra_tree.specs.Counts.{leaf_count, HasRightCounts};
-ghost use Rattle.ultra_tree.specs.Places.{leaves_in};
-ghost use Rattle.ultra_tree.specs.Seen.{seen, at_cell};
+ghost use Rattle.ultra_tree.specs.{Counts.{leaf_count, HasRightCounts}, Places.leaves_in, Seen.{seen, at_cell}};
 
 use crate::trees::{CountedNode, Tree};
 use std::alloc::{AllocError, AllocFailed, Allocator, Global};

@@ -2,8 +2,7 @@
 
 ghost use Rattle.std.specs.Prelude.{◌≡◌, ◌+◌, ◌≤◌, ◌++◌, length, decimal};
 ghost use Rattle.arrayvec.specs.ArrayVec.{array_vec_len};
-ghost use Rattle.ultra_tree.specs.Text.{closings, order_mark_text};
-ghost use Rattle.ultra_tree.specs.declared.short_text.TheConstants.{SHORT_BYTES};
+ghost use Rattle.ultra_tree.specs.{Text.{closings, order_mark_text}, declared.short_text.TheConstants.SHORT_BYTES};
 
 use arrayvec::ArrayVec;
 use itoa::Buffer;

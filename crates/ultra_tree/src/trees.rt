@@ -1,8 +1,7 @@
 //! Trees of combined requests.
 
 ghost use Rattle.std.specs.Prelude.{◌≡◌, ℕ, IfOk};
-ghost use Rattle.ultra_serial_law.specs.Tree.{leaf as leaf_tree, pair};
-ghost use Rattle.ultra_serial_law.specs.declared.records.NamedRequest.{NamedRequest};
+ghost use Rattle.ultra_serial_law.specs.{Tree.{leaf as leaf_tree, pair}, declared.records.NamedRequest.NamedRequest};
 ghost use Rattle.ultra_tree.specs.Counts.{leaf_count, HasRightCounts};
 
 use std::alloc::{AllocError, Allocator};

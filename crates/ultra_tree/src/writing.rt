@@ -2,10 +2,7 @@
 
 ghost use Rattle.std.specs.Prelude.{◌≡◌, ℕ, ◌+◌, ◌<◌, ◌≤◌, ◌^◌, ◌++◌, None, codes, decimal};
 ghost use Rattle.ultra_msg.specs.Bytes.{WritesOrFails};
-ghost use Rattle.ultra_tree.specs.Counts.{leaf_count, HasRightCounts};
-ghost use Rattle.ultra_tree.specs.Places.{piece};
-ghost use Rattle.ultra_tree.specs.Seen.{seen};
-ghost use Rattle.ultra_tree.specs.declared.writing.TheConstants.{FEW_CLOSINGS};
+ghost use Rattle.ultra_tree.specs.{Counts.{leaf_count, HasRightCounts}, Places.piece, Seen.seen, declared.writing.TheConstants.FEW_CLOSINGS};
 ghost use Rattle.ultra_tree.specs.Text.{leaf_text, head_text, opening, closings, order_mark_text, tree_text};
 
 use crate::short_text::{ShortText, add_bytes, add_closings, add_decimal, add_mark};

@@ -2,7 +2,7 @@
 use Rattle.std.proofs.Common.{◌≡◌, ℕ, ◌-◌, ◌≤◌, List, [], ◌∷◌, ◌++◌, refl, arith, length, length-append, Option, Some, IfSome, slice_get, not}
 use Rattle.ultra_unit_steps.proofs.Common.{common_steps, is_fixed, Combined, Request, WaitRecord, SizedLane, combination_in, arrive_all}
 use Rattle.ultra_model.proofs.Capacities.{arrive_queue}
-use Rattle.ultra_switch.specs.{declared.QueueEntry.QueueEntry, declared.Arrived.TheVariants.CombinedWith}
+use Rattle.ultra_switch.specs.declared.{QueueEntry.QueueEntry, Arrived.TheVariants.CombinedWith}
 use Rattle.ultra_switch.specs.Arrive.{Lane, Combination, combine, combine_within, after_arrival, arrive, outcome}
 
 -- ---- how long the queue is

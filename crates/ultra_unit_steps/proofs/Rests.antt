@@ -1,7 +1,8 @@
 -- a processing element that can make no step is left as it is by one, and still can make none when a request has left it
 use Rattle.std.proofs.Common.{◌≡◌, ◌≢◌, ℕ, List, length-append, true, false, arith, Some, None}
 use Rattle.ultra_unit_steps.proofs.Common.{Event, Instr, Stop, has_stopped, issue_event, stop_of}
-use Rattle.ultra_unit_steps.specs.{Elements.element_of, Elements.step_at, Elements.executed, Elements.is_at_rest, Elements.changes_nothing, Elements.holds_request, declared.elements.ProcessingElement.ProcessingElement}
+use Rattle.ultra_unit_steps.specs.Elements.{element_of, step_at, executed, is_at_rest, changes_nothing, holds_request}
+use Rattle.ultra_unit_steps.specs.declared.elements.ProcessingElement.{ProcessingElement}
 
 module _ (program : List Instr) (e : ProcessingElement) where
   -- one that is at rest: a step leaves it as it is, issues nothing, and doesn't stop it

@@ -1,8 +1,8 @@
 -- a processing element after each half of a cycle
 use Rattle.std.specs.Prelude.{List, [], Bool, true, false, not, ◌&&◌, Option, Some, None}
 use Rattle.ultra_unit_steps.specs.Prelude.{ReplyMessage, Event, Stop, Instr, StepResult, has_stopped, step_of, after_leaving, Element, deliver, stepped}
-use Rattle.ultra_isa.specs.{declared.Step.Step, declared.Step.TheVariants.Stalled, declared.Step.TheVariants.Halted}
-use Rattle.ultra_unit_steps.specs.{Halves.has_none, declared.elements.ProcessingElement.ProcessingElement, declared.elements.StepOutcome.StepOutcome, declared.elements.StepOutcome.TheVariants.Issued, declared.elements.StepOutcome.TheVariants.Faulted}
+use Rattle.ultra_isa.specs.declared.Step.{Step, TheVariants.{Stalled, Halted}}
+use Rattle.ultra_unit_steps.specs.{Halves.has_none, declared.elements.{ProcessingElement.ProcessingElement, StepOutcome.{StepOutcome, TheVariants.{Issued, Faulted}}}}
 
 -- what the definition of the whole machine sees of it
 abbrev pub element_of : ProcessingElement → Element

@@ -1,19 +1,10 @@
 -- The words of the crates below that contracts and definitions here use. Those of std's own prelude
 -- come from there.
-pub use Rattle.std.specs.List.{filter}
-pub use Rattle.std.specs.Option.{ForSome}
-pub use Rattle.ultra_isa.specs.Step.{Core, StepResult, has_stopped, step_of}
-pub use Rattle.ultra_isa.specs.declared.Instr.{Instr}
-pub use Rattle.ultra_model.specs.Machine.{Element, is_nothing}
+pub use Rattle.std.specs.{List.filter, Option.ForSome}
+pub use Rattle.ultra_isa.specs.{Step.{Core, StepResult, has_stopped, step_of}, declared.Instr.Instr}
+pub use Rattle.ultra_model.specs.{Machine.{Element, is_nothing}, Places.{after_leaving, present}, declared.Stop.Stop}
 pub use Rattle.ultra_model.specs.Phases.{arrive_all, combinations, deliver, issue_event, records_left, replies_made, stepped, stop_of, without_reply}
-pub use Rattle.ultra_model.specs.Places.{after_leaving, present}
-pub use Rattle.ultra_model.specs.declared.Stop.{Stop}
-pub use Rattle.ultra_msg.specs.Pair.{is_fixed, pair_of}
-pub use Rattle.ultra_msg.specs.declared.Event.{Event}
-pub use Rattle.ultra_msg.specs.declared.Event.TheVariants.{Combined}
-pub use Rattle.ultra_msg.specs.declared.ReplyMessage.{ReplyMessage}
-pub use Rattle.ultra_msg.specs.declared.Request.{Request}
+pub use Rattle.ultra_msg.specs.{Pair.{is_fixed, pair_of}, declared.{Event.{Event, TheVariants.Combined}, ReplyMessage.ReplyMessage, Request.Request}}
 pub use Rattle.ultra_pni.specs.Interface.{CanDeliver}
 pub use Rattle.ultra_route.specs.Route.{bit_of}
-pub use Rattle.ultra_switch.specs.Queues.{SizedLane, SizedReplies, request_of}
-pub use Rattle.ultra_switch.specs.{declared.Ports.Ports, declared.Switch.Switch}
+pub use Rattle.ultra_switch.specs.{Queues.{SizedLane, SizedReplies, request_of}, declared.{Ports.Ports, Switch.Switch}}

@@ -1,8 +1,7 @@
 //! What the halves of a cycle do to a memory module. It serves by `Module::serve`.
 
 ghost use Rattle.std.specs.Prelude.{◌≡◌, ◌/◌, ◌^◌, ◌<◌, Some, None, is_some, length};
-ghost use Rattle.ultra_unit_steps.specs.Prelude.{without_reply};
-ghost use Rattle.ultra_unit_steps.specs.{Halves.where_room, Modules.module_with, Modules.quiet_module};
+ghost use Rattle.ultra_unit_steps.specs.{Prelude.without_reply, Halves.where_room, Modules.{module_with, quiet_module}};
 
 use ultra_mem::Module;
 use ultra_msg::{ReplyPacket, RequestPacket};

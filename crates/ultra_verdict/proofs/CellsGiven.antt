@@ -1,25 +1,15 @@
 -- the cells of a list, and those that entries leave
 use Rattle.std.proofs.Common.{◌≡◌, ◌≢◌, ℕ, ◌+◌, ◌*◌, ◌/◌, ◌%◌, ◌<◌, ◌≤◌, List, [], ◌∷◌, ◌++◌, Bool, true, false, length, take, get_or, refl, sym, ap, subst, ◌∙◌, arith, ⊎_elim, Option}
-use Rattle.std.specs.Prelude.{slice_get}
-use Rattle.std.specs.Option.{unwrap_or}
-use Rattle.std.proofs.lemmas.Option.{unwrap_or-slice_get}
+use Rattle.std.specs.{Prelude.slice_get, Option.unwrap_or}
+use Rattle.std.proofs.{lemmas.{Option.unwrap_or-slice_get, Bool.{cases_eq, cases_lt}, List.{take_more, get_or_past}, Nat.{le-div, pow_pos}}, Math.Path.fun_ext}
 use Rattle.ultra_mem.specs.Serve.{ModuleState}
-use Rattle.std.proofs.Math.Path.{fun_ext}
-use Rattle.std.proofs.lemmas.Bool.{cases_eq, cases_lt}
-use Rattle.std.proofs.lemmas.List.{take_more, get_or_past}
-use Rattle.std.proofs.lemmas.Nat.{le-div, pow_pos}
 use Rattle.ultra_msg.specs.Act.{act}
-use Rattle.ultra_model.specs.Machine.{Settings, Machine, size, module_at}
-use Rattle.ultra_model.specs.Shape.{HasShape}
-use Rattle.ultra_model.specs.Trace.{cell_value}
+use Rattle.ultra_model.specs.{Machine.{Settings, Machine, size, module_at}, Shape.HasShape, Trace.cell_value}
 use Rattle.ultra_model.proofs.Neighbours.{itself}
-use Rattle.ultra_serial_law.specs.declared.records.Entry.{Entry}
-use Rattle.ultra_serial_law.specs.Log.{empty_log}
-use Rattle.ultra_serial_law.specs.Legal.{Cells, with_cell, given_over, given}
+use Rattle.ultra_serial_law.specs.{declared.records.Entry.Entry, Log.empty_log, Legal.{Cells, with_cell, given_over, given}}
 use Rattle.ultra_serial_law.proofs.Replays.{with_other}
 use Rattle.ultra_serial.specs.Breach.{cells_past}
-use Rattle.ultra_serial.proofs.CellsHeld.{given_more}
-use Rattle.ultra_serial.proofs.Explaining.{past_more}
+use Rattle.ultra_serial.proofs.{CellsHeld.given_more, Explaining.past_more}
 
 -- ---- one cell
 with_this : (m : Cells) (a v b : ℕ) → a ≡ b → with_cell m a v b ≡ v

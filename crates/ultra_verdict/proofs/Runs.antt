@@ -3,22 +3,10 @@ use Rattle.std.proofs.Common.{◌≡◌, ℕ, zero, suc, ◌≤◌, ◌⊎◌, L
 use Rattle.std.proofs.Math.Path.{fun_ext}
 use Rattle.ultra_isa.specs.declared.Instr.{Instr}
 use Rattle.ultra_machine.specs.MachineState.{MachineState}
-use Rattle.ultra_model.specs.Machine.{Settings, Machine, is_quiet}
-use Rattle.ultra_model.specs.Phases.{after}
-use Rattle.ultra_model.specs.Ranges.{AreInRange}
-use Rattle.ultra_model.specs.Shape.{HasShape}
-use Rattle.ultra_model.specs.Trace.{cell_value, cycle_count, last_state}
+use Rattle.ultra_model.specs.{Machine.{Settings, Machine, is_quiet}, Phases.after, Ranges.AreInRange, Shape.HasShape, Trace.{cell_value, cycle_count, last_state}}
 use Rattle.ultra_model.proofs.Sound.{after_is_sound}
-use Rattle.ultra_serial_law.specs.declared.records.LoggedIssue.{LoggedIssue}
-use Rattle.ultra_serial_law.specs.declared.records.LoggedAnswer.{LoggedAnswer}
-use Rattle.ultra_serial_law.specs.Log.{Log}
-use Rattle.ultra_serial_law.specs.Legal.{Has, given, cells_after}
-use Rattle.ultra_serial_law.specs.Replies.{Delivery, AreAnswersOf, deliveries}
-use Rattle.ultra_serial_law.specs.SerialList.{History, history}
-use Rattle.ultra_serial_law.proofs.LastCycle.{EndsWell, count_ends}
-use Rattle.ultra_serial_law.proofs.Law.{serial_after}
-use Rattle.ultra_serial_law.proofs.Replies.{answers_after}
-use Rattle.ultra_serial_law.proofs.Rest.{quiet_history}
+use Rattle.ultra_serial_law.specs.{declared.records.{LoggedIssue.LoggedIssue, LoggedAnswer.LoggedAnswer}, Log.Log, Legal.{Has, given, cells_after}, Replies.{Delivery, AreAnswersOf, deliveries}, SerialList.{History, history}}
+use Rattle.ultra_serial_law.proofs.{LastCycle.{EndsWell, count_ends}, Law.serial_after, Replies.answers_after, Rest.quiet_history}
 use Rattle.ultra_serial.specs.HasRun.{HasRun}
 use Rattle.ultra_verdict.specs.Judged.{IsIssueAnswered, AreAnswersIssued}
 

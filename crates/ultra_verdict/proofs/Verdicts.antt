@@ -3,14 +3,9 @@ use Rattle.std.proofs.Common.{◌≡◌, ℕ, ◌+◌, ◌<◌, ◌≤◌, List,
 use Rattle.std.specs.Prelude.{◌↔◌, slice_get}
 use Rattle.std.proofs.lemmas.Option.{slice_get-get_or, slice_get_read, slice_get_within, get_or_from_slice_get}
 use Rattle.ultra_msg.specs.declared.Reply.{Reply}
-use Rattle.ultra_serial_law.specs.declared.records.Entry.{Entry}
-use Rattle.ultra_serial_law.specs.declared.records.LoggedAnswer.{LoggedAnswer}
-use Rattle.ultra_serial_law.specs.declared.records.LoggedIssue.{LoggedIssue}
-use Rattle.ultra_serial_law.specs.Log.{Log}
-use Rattle.ultra_serial_law.specs.Legal.{Cells, Has, IsAnswerTo, IsLegal}
-use Rattle.ultra_serial.specs.declared.checking.BreachKind.{BreachKind}
+use Rattle.ultra_serial_law.specs.{declared.records.{Entry.Entry, LoggedAnswer.LoggedAnswer, LoggedIssue.LoggedIssue}, Log.Log, Legal.{Cells, Has, IsAnswerTo, IsLegal}}
+use Rattle.ultra_serial.specs.{declared.checking.BreachKind.BreachKind, LatestIssue.{IsLatestIssue, IsNoneIssued}}
 use Rattle.ultra_serial.specs.declared.checking.BreachKind.TheVariants as kind
-use Rattle.ultra_serial.specs.LatestIssue.{IsLatestIssue, IsNoneIssued}
 use Rattle.ultra_verdict.specs.declared.verdict.Verdict.{Verdict}
 use Rattle.ultra_verdict.specs.declared.verdict.Verdict.TheVariants.{Legal, NotIssued, Repeated, WrongReplay, WrongAnswer, TooLate, Missing, WrongCell}
 use Rattle.ultra_verdict.specs.Judged.{IsAnsweredOtherwise, IsFirstWrong, IsIssueAnswered, IsMissing, IsWrongLine, IsVerdict, is_legal}

@@ -1,11 +1,8 @@
 -- the verdict on a case: a list, and the run by which it is judged
 use Rattle.std.specs.Prelude.{ℕ}
-use Rattle.ultra_serial_law.specs.Log.{log_of}
-use Rattle.ultra_serial_law.specs.Legal.{given}
+use Rattle.ultra_serial_law.specs.{Log.log_of, Legal.given}
 use Rattle.ultra_serial.specs.declared.checking.BreachKind.{BreachKind}
-use Rattle.ultra_verdict.specs.declared.verdict.Verdict.{Verdict}
-use Rattle.ultra_verdict.specs.declared.judging.Case.{Case}
-use Rattle.ultra_verdict.specs.Judged.{IsFirstWrong, IsVerdict}
+use Rattle.ultra_verdict.specs.{declared.{verdict.Verdict.Verdict, judging.Case.Case}, Judged.{IsFirstWrong, IsVerdict}}
 
 abbrev pub IsFirstWrongOf : Case → BreachKind → ℕ → Type 0
 IsFirstWrongOf c =

@@ -4,11 +4,7 @@ use Rattle.ultra_msg.specs.Bytes.{TakesPrefix}
 use Rattle.ultra_isa.specs.declared.Instr.{Instr}
 use Rattle.ultra_model.specs.Machine.{Settings}
 use Rattle.ultra_serial_law.specs.declared.records.Entry.{Entry}
-use Rattle.ultra_verdict.specs.declared.verdict.Verdict.{Verdict}
-use Rattle.ultra_verdict.specs.declared.fault.VerdictFault.{VerdictFault}
-use Rattle.ultra_verdict.specs.declared.fault.VerdictFault.TheVariants.{Write, NoMemory}
-use Rattle.ultra_verdict.specs.Judged.{IsVerdictFor, is_legal}
-use Rattle.ultra_verdict.specs.VerdictText.{verdict_text}
+use Rattle.ultra_verdict.specs.{declared.{verdict.Verdict.Verdict, fault.VerdictFault.{VerdictFault, TheVariants.{Write, NoMemory}}}, Judged.{IsVerdictFor, is_legal}, VerdictText.verdict_text}
 
 -- how often the sink has failed
 abbrev pub failures_of_verdict : VerdictFault → ℕ

@@ -1,21 +1,12 @@
 -- which verdict a list gets for a run
 use Rattle.std.specs.Prelude.{◌≡◌, ◌≢◌, ◌≤◌, ◌+◌, ◌-◌, ℕ, List, Bool, true, false, Some, take, slice_get}
-use Rattle.ultra_msg.specs.Act.{act}
-use Rattle.ultra_msg.specs.declared.Reply.{Reply}
+use Rattle.ultra_msg.specs.{Act.act, declared.Reply.Reply}
 use Rattle.ultra_isa.specs.declared.Instr.{Instr}
-use Rattle.ultra_model.specs.Machine.{Settings}
-use Rattle.ultra_model.specs.Trace.{cell_value, cycle_count, last_state}
-use Rattle.ultra_serial_law.specs.declared.records.LoggedIssue.{LoggedIssue}
-use Rattle.ultra_serial_law.specs.declared.records.LoggedAnswer.{LoggedAnswer}
-use Rattle.ultra_serial_law.specs.declared.records.Entry.{Entry}
-use Rattle.ultra_serial_law.specs.Log.{Log}
+use Rattle.ultra_model.specs.{Machine.Settings, Trace.{cell_value, cycle_count, last_state}}
+use Rattle.ultra_serial_law.specs.{declared.records.{LoggedIssue.LoggedIssue, LoggedAnswer.LoggedAnswer, Entry.Entry}, Log.Log, SerialList.history}
 use Rattle.ultra_serial_law.specs.Legal.{Cells, given, Has, IsAnswerTo, IsIssueOf, IsLegal}
-use Rattle.ultra_serial_law.specs.SerialList.{history}
-use Rattle.ultra_serial.specs.declared.checking.BreachKind.{BreachKind}
+use Rattle.ultra_serial.specs.{declared.checking.{BreachKind.BreachKind, CheckFault.TheVariants.Breach}, Breach.{cells_past, ExplainsCheckFault}, LatestIssue.IsLatestIssue}
 use Rattle.ultra_serial.specs.declared.checking.BreachKind.TheVariants as kind
-use Rattle.ultra_serial.specs.declared.checking.CheckFault.TheVariants.{Breach}
-use Rattle.ultra_serial.specs.Breach.{cells_past, ExplainsCheckFault}
-use Rattle.ultra_serial.specs.LatestIssue.{IsLatestIssue}
 use Rattle.ultra_verdict.specs.declared.verdict.Verdict.{Verdict}
 use Rattle.ultra_verdict.specs.declared.verdict.Verdict.TheVariants.{Legal, NotIssued, Repeated, WrongReplay, WrongAnswer, TooLate, Missing, WrongCell}
 

@@ -3,8 +3,7 @@
 ghost use Rattle.std.specs.Prelude.{◌≡◌, IfOk};
 ghost use Rattle.ultra_serial_law.specs.Log.{log_of};
 ghost use Rattle.ultra_serial.specs.declared.checking.BreachKind.TheVariants as kind;
-ghost use Rattle.ultra_verdict.specs.Judged.{AreAnswersIssued, IsVerdictFor};
-ghost use Rattle.ultra_verdict.specs.Case.{IsFirstWrongOf, IsVerdictOf};
+ghost use Rattle.ultra_verdict.specs.{Judged.{AreAnswersIssued, IsVerdictFor}, Case.{IsFirstWrongOf, IsVerdictOf}};
 
 use crate::last_cells::last_cells;
 use crate::searching::{

@@ -1,8 +1,7 @@
 //! The cells of a machine.
 
 ghost use Rattle.std.specs.Prelude.{◌≡◌, IfOk};
-ghost use Rattle.ultra_model.specs.Shape.{HasShape};
-ghost use Rattle.ultra_model.specs.Trace.{cell_value};
+ghost use Rattle.ultra_model.specs.{Shape.HasShape, Trace.cell_value};
 ghost use Rattle.ultra_serial_law.specs.Legal.{given};
 
 use std::alloc::{AllocError, Global};

@@ -10,8 +10,7 @@ mod verdict;
 mod writing;
 
 ghost use Rattle.std.specs.Prelude.{◌≡◌, ◌+◌, ◌↔◌, true, IfErr, IfOk, OnOk};
-ghost use Rattle.ultra_verdict.specs.Faults.{IsVerdictWritten, VerdictFails, failures_of_verdict};
-ghost use Rattle.ultra_verdict.specs.Judged.{IsLegalFor};
+ghost use Rattle.ultra_verdict.specs.{Faults.{IsVerdictWritten, VerdictFails, failures_of_verdict}, Judged.IsLegalFor};
 
 pub use fault::VerdictFault;
 pub use judging::judge;

@@ -1,13 +1,9 @@
 //! The values that show a breach.
 
 ghost use Rattle.std.specs.Prelude.{◌≡◌, ◌≤◌};
-ghost use Rattle.ultra_msg.specs.Act.{act as effect};
-ghost use Rattle.ultra_serial_law.specs.Legal.{given};
+ghost use Rattle.ultra_msg.specs.{Act.act as effect, declared.Reply.Reply as ReplyOf};
+ghost use Rattle.ultra_serial_law.specs.{Legal.{given, Has, IsAnswerTo}, declared.records.{LoggedIssue.LoggedIssue as IssueOf, LoggedAnswer.LoggedAnswer as AnswerOf}};
 ghost use Rattle.ultra_serial.specs.Breach.{cells_past};
-ghost use Rattle.ultra_msg.specs.declared.Reply.{Reply as ReplyOf};
-ghost use Rattle.ultra_serial_law.specs.declared.records.LoggedIssue.{LoggedIssue as IssueOf};
-ghost use Rattle.ultra_serial_law.specs.declared.records.LoggedAnswer.{LoggedAnswer as AnswerOf};
-ghost use Rattle.ultra_serial_law.specs.Legal.{Has, IsAnswerTo};
 ghost use Rattle.ultra_verdict.specs.Judged.{IsAnsweredIn, IsAnsweredOtherwise, IsIssueAnswered};
 
 use ultra_msg::{Cell, Reply, Word};

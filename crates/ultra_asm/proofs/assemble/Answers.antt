@@ -1,17 +1,9 @@
 use Rattle.std.proofs.Common.{◌≡◌, ℕ, ◌+◌, ◌++◌, ◌∙◌, ◌≤◌, ap, sym, subst, inr, length, take, nat_lt, eqb, get_or, List, [], ◌∷◌, arith, rules, tests}
-use Rattle.std.proofs.lemmas.List.{append-nil, length_push}
-use Rattle.std.proofs.lemmas.Iterator.Consumers.{YieldsList-at, YieldsList-from_enumerate}
-use Rattle.std.proofs.lemmas.Iterator.Splits.{YieldsList-from_slice_split}
-use Rattle.ultra_asm.specs.Words.{text_words}
-use Rattle.ultra_asm.specs.Labels.{near_definition_of}
-use Rattle.ultra_asm.specs.Found.{definition_in}
-use Rattle.ultra_asm.specs.ProgramText.{IsFirstFault}
-use Rattle.ultra_asm.specs.Reading.{read_line}
-use Rattle.ultra_asm.proofs.FirstWords.{line_few}
-use Rattle.ultra_asm.proofs.Turns.{texts, IsTurn, turn, end}
+use Rattle.std.proofs.lemmas.{List.{append-nil, length_push}, Iterator.{Consumers.{YieldsList-at, YieldsList-from_enumerate}, Splits.YieldsList-from_slice_split}}
+use Rattle.ultra_asm.specs.{Words.text_words, Labels.near_definition_of, Found.definition_in, ProgramText.IsFirstFault, Reading.read_line}
+use Rattle.ultra_asm.proofs.{FirstWords.line_few, Turns.{texts, IsTurn, turn, end}, assemble.Goals.{After-line_instruction, After-new, in-Some-found+in_ok-push, in_default}}
 use Rattle.ultra_asm.proofs.Assembly.{first_fault, so_far_more, so_far_all, so_far_program, only, no_first_fault}
 use Rattle.ultra_asm.proofs.assemble.Goals as goal
-use Rattle.ultra_asm.proofs.assemble.Goals.{After-line_instruction, After-new, in-Some-found+in_ok-push, in_default}
 
 -- the line of this turn
 here : (c : After-line_instruction) → IsTurn c.args.text.now (length c.loop-index.yielded) c.in-Some.index c.in-Some.line.now

@@ -1,6 +1,5 @@
 use Rattle.std.proofs.Common.{length}
-use Rattle.ultra_asm.specs.Words.{text_words}
-use Rattle.ultra_asm.specs.Found.{definition_in}
+use Rattle.ultra_asm.specs.{Words.text_words, Found.definition_in}
 use Rattle.ultra_asm.proofs.Assembly.{IsSoFar}
 use Rattle.ultra_asm.proofs.assemble.Given as goal
 

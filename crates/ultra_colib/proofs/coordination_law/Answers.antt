@@ -1,8 +1,5 @@
 use Rattle.std.proofs.Common.{refl}
-use Rattle.ultra_colib.specs.Gate.{gate, AreFewInside}
-use Rattle.ultra_colib.specs.ReadersWriters.{readers_writers, AreWritersAlone}
-use Rattle.ultra_colib.specs.Barrier.{barrier, AreInStep}
-use Rattle.ultra_colib.specs.Queue.{queue, AreItemsOnce}
+use Rattle.ultra_colib.specs.{Gate.{gate, AreFewInside}, ReadersWriters.{readers_writers, AreWritersAlone}, Barrier.{barrier, AreInStep}, Queue.{queue, AreItemsOnce}}
 use Rattle.ultra_colib.proofs.Gate as gate_proof
 use Rattle.ultra_colib.proofs.ReadersWriters as rw_proof
 use Rattle.ultra_colib.proofs.Barrier as barrier_proof

@@ -2,8 +2,7 @@
 use Rattle.std.proofs.Common.{◌∙◌, ◌≡◌, List, ap, map, refl, subst, sym, true}
 use Rattle.clap.specs.Words.{App, Text, fault_of, is_simple, is_simple_and_free, subcommand_of, HasKind}
 use Rattle.clap.proofs.OnLiterals.{clap_on_literals}
-use Rattle.ultra_args.specs.Asked.{named_in}
-use Rattle.ultra_args.specs.Grammar.{ultra_app}
+use Rattle.ultra_args.specs.{Asked.named_in, Grammar.ultra_app}
 use Rattle.ultra_command_line.proofs.matched_command.Goals as goal
 
 simple : is_simple ultra_app ≡ true

@@ -2,8 +2,7 @@
 use Rattle.std.proofs.Common.{List, map}
 use Rattle.clap.specs.Words.{Text}
 use Rattle.ultra_command_line.specs.declared.Parsed.TheVariants as parsed
-use Rattle.ultra_command_line.proofs.Flags.{help_alone, text_asked, version_alone}
-use Rattle.ultra_command_line.proofs.RunWords.{run_of_paths}
+use Rattle.ultra_command_line.proofs.{Flags.{help_alone, text_asked, version_alone}, RunWords.run_of_paths}
 use Rattle.ultra_command_line.proofs.parse.Goals as goal
 
 pub returns-in-Ok-clause-run : goal.returns-in-Ok-clause-run

@@ -1,22 +1,12 @@
 -- how each command ends
-use Rattle.std.proofs.Common.{◌≡◌, ◌+◌, arith, refl}
+use Rattle.std.proofs.{Common.{◌≡◌, ◌+◌, arith, refl}, lemmas.Result.{IfErr-weaker, on_ok_weaker}}
 use Rattle.std.specs.Prelude.{OnOk}
-use Rattle.std.proofs.lemmas.Result.{IfErr-weaker, on_ok_weaker}
 use Rattle.ultra_args.specs.declared.Invocation.TheVariants.{Run, Events, Requests, Measure, Order, Explain, Check, Para, List as ListOf, Sweep, Lib}
 use Rattle.ultra_command_line.specs.declared.Parsed.TheVariants as parsed
-use Rattle.ultra_requests.specs.EventLines.{events_of}
-use Rattle.ultra_requests.specs.RequestTable.{requests_of}
-use Rattle.ultra_inputs.specs.Failure.{read_failures}
-use Rattle.ultra_inputs.specs.Traffic.{traffic, WroteText}
-use Rattle.ultra_commands.specs.Listing.{WroteListing, ListFails}
-use Rattle.ultra_commands.specs.Stops.{WroteRun, RunFails}
-use Rattle.ultra_commands.specs.Order.{order_of}
+use Rattle.ultra_requests.specs.{EventLines.events_of, RequestTable.requests_of}
+use Rattle.ultra_inputs.specs.{Failure.read_failures, Traffic.{traffic, WroteText}}
+use Rattle.ultra_commands.specs.{Listing.{WroteListing, ListFails}, Stops.{WroteRun, RunFails}, Order.order_of, Coordination.{WroteProgram, LibFails}, Outputs.{measures_asked, part_asked}, Check.{WroteLegal, CheckFails}, Paracomputer.{WrotePara, ParaFails}, Outcome.ExplainFails}
 use Rattle.ultra_explain_command.specs.Explanation.{explanation_of}
-use Rattle.ultra_commands.specs.Coordination.{WroteProgram, LibFails}
-use Rattle.ultra_commands.specs.Outputs.{measures_asked, part_asked}
-use Rattle.ultra_commands.specs.Check.{WroteLegal, CheckFails}
-use Rattle.ultra_commands.specs.Paracomputer.{WrotePara, ParaFails}
-use Rattle.ultra_commands.specs.Outcome.{ExplainFails}
 use Rattle.ultra_commands.proofs.Endings.{run_refused, check_refused, para_refused, explain_failed, explain_refused, list_refused, lib_refused, lib_unread, command_ended, text_ended, sweep_ended}
 use Rattle.ultra_commands.proofs.carry_out.Goals as goal
 

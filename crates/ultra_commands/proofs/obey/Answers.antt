@@ -1,8 +1,7 @@
 -- how help and the version end, and words that are no command
 use Rattle.std.proofs.Common.{refl, arith, inl, inr}
 use Rattle.ultra_command_line.specs.declared.Parsed.TheVariants as parsed
-use Rattle.ultra_inputs.specs.declared.failure.Failure.TheVariants.{Usage, NoMemory, NotWritten}
-use Rattle.ultra_inputs.specs.Shown.{stream}
+use Rattle.ultra_inputs.specs.{declared.failure.Failure.TheVariants.{Usage, NoMemory, NotWritten}, Shown.stream}
 use Rattle.ultra_inputs.proofs.Endings.{not_five}
 use Rattle.ultra_commands.proofs.Endings.{failure_ended}
 use Rattle.ultra_commands.proofs.obey.Goals as goal

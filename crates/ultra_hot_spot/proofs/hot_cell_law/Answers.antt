@@ -1,5 +1,4 @@
-use Rattle.ultra_hot_spot.proofs.FirstCycle.{hot_cell_occurs}
-use Rattle.ultra_hot_spot.proofs.Law.{hot_cell}
+use Rattle.ultra_hot_spot.proofs.{FirstCycle.hot_cell_occurs, Law.hot_cell}
 use Rattle.ultra_hot_spot.proofs.hot_cell_law.Goals as goal
 
 pub returns : goal.returns

@@ -1,6 +1,5 @@
-use Rattle.std.proofs.Common.{arith, subst}
+use Rattle.std.proofs.{Common.{arith, subst}, lemmas.List.take_all}
 use Rattle.std.specs.List.{AllByRecursion}
-use Rattle.std.proofs.lemmas.List.{take_all}
 use Rattle.ultra_list.specs.SerialText.{HasWords}
 use Rattle.ultra_list.proofs.Written.{written_is_read}
 use Rattle.ultra_list.proofs.entries_text_law.Goals as goal

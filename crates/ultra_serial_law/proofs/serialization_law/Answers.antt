@@ -1,5 +1,4 @@
-use Rattle.ultra_serial_law.proofs.Law.{serialization}
-use Rattle.ultra_serial_law.proofs.ExplicableRuns.{explaining}
+use Rattle.ultra_serial_law.proofs.{Law.serialization, ExplicableRuns.explaining}
 use Rattle.ultra_serial_law.proofs.serialization_law.Goals as goal
 
 pub returns : goal.returns

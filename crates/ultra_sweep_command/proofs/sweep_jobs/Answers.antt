@@ -2,14 +2,8 @@
 use Rattle.std.proofs.Common.{◌≡◌, ◌∙◌, ◌<◌, ap, inl, inr, length, refl, subst, sym}
 use Rattle.std.proofs.lemmas.Result.{err_from_is_err_and}
 use Rattle.ultra_sweep.specs.Job.{texts_of}
-use Rattle.ultra_sweep_command.specs.declared.SweepPlan.{SweepPlan}
-use Rattle.ultra_sweep_command.specs.declared.fault.SweepFault.{SweepFault}
-use Rattle.ultra_sweep_command.specs.declared.fault.SweepFault.TheVariants.{NoMemory, NoThread}
+use Rattle.ultra_sweep_command.specs.{declared.{SweepPlan.SweepPlan, fault.SweepFault.{SweepFault, TheVariants.{NoMemory, NoThread}}}, Shown.IsProgressShown, Output.job_output, Sweep.{failure_of, StopsJobs, refused, not_run, unwritten}, SeatResults.threads_of}
 use Rattle.ultra_inputs.specs.Shown.{stream}
-use Rattle.ultra_sweep_command.specs.Shown.{IsProgressShown}
-use Rattle.ultra_sweep_command.specs.Output.{job_output}
-use Rattle.ultra_sweep_command.specs.Sweep.{failure_of, StopsJobs, refused, not_run, unwritten}
-use Rattle.ultra_sweep_command.specs.SeatResults.{threads_of}
 use Rattle.ultra_sweep_command.proofs.Sharing.{starts_threads}
 use Rattle.ultra_sweep_command.proofs.sweep_jobs.Goals as goal
 

@@ -1,9 +1,7 @@
 -- the table in code has the names, the commands and the arguments of the constant
 use Rattle.std.proofs.Common.{◌∙◌, refl, sym, Bor}
 use Rattle.clap.specs.Words.{Text}
-use Rattle.ultra_args.specs.Asked.{command_named}
-use Rattle.ultra_args.specs.Grammar.{ultra_app}
-use Rattle.ultra_args.specs.declared.table.TheConstants.{COMMANDS}
+use Rattle.ultra_args.specs.{Asked.command_named, Grammar.ultra_app, declared.table.TheConstants.COMMANDS}
 use Rattle.ultra_args.proofs.Tables.{by_names}
 use Rattle.ultra_args.proofs.grammar.commands.Goals as goal
 

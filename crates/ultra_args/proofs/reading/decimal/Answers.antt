@@ -1,7 +1,6 @@
 -- a text that doesn't begin with a plus
 use Rattle.std.proofs.Common.{◌≡◌, arith, false, None, Some, rules, slice_index}
-use Rattle.std.specs.Prelude.{◌==◌}
-use Rattle.std.specs.Str.Parse.{without_leading_plus}
+use Rattle.std.specs.{Prelude.◌==◌, Str.Parse.without_leading_plus}
 use Rattle.ultra_args.specs.Asked.{number_below}
 use Rattle.ultra_args.proofs.Numbers.{parsed}
 use Rattle.ultra_args.proofs.reading.decimal.Goals as goal

@@ -1,11 +1,9 @@
 -- by the rows
 use Rattle.std.proofs.Common.{◌∙◌, ap}
-use Rattle.std.specs.Prelude.{option_and_then}
-use Rattle.std.specs.Str.Parse.{ParsesUnsigned, ExplainsUnsignedError, HasUnsignedDigitsIfOk, without_leading_plus}
+use Rattle.std.specs.{Prelude.option_and_then, Str.Parse.{ParsesUnsigned, ExplainsUnsignedError, HasUnsignedDigitsIfOk, without_leading_plus}}
 use Rattle.clap.specs.Matches.{found_of, one_text}
 use Rattle.ultra_args.specs.Asked.{number_below}
-use Rattle.ultra_args.proofs.Rows.{read_text}
-use Rattle.ultra_args.proofs.Numbers.{read_number}
+use Rattle.ultra_args.proofs.{Rows.read_text, Numbers.read_number}
 use Rattle.ultra_args.proofs.reading.given_number.Goals as goal
 
 pub returns : goal.returns

@@ -1,9 +1,7 @@
-use Rattle.std.proofs.Common.{◌++◌, ◌+◌, [], drop, codes}
-use Rattle.std.proofs.lemmas.List.{drop_all}
+use Rattle.std.proofs.{Common.{◌++◌, ◌+◌, [], drop, codes}, lemmas.List.drop_all}
 use Rattle.ultra_io.proofs.Writing.{writes_nothing}
 use Rattle.ultra_asm.specs.Listing.{operand_text, operands_text}
-use Rattle.ultra_asm.proofs.InBuffer.{continued, ended}
-use Rattle.ultra_asm.proofs.Places.{next_operand}
+use Rattle.ultra_asm.proofs.{InBuffer.{continued, ended}, Places.next_operand}
 use Rattle.ultra_asm.proofs.canonical.put_operands.Goals as goal
 
 pub loop-operand-preserved : goal.loop-operand-preserved

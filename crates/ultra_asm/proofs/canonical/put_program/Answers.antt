@@ -1,10 +1,7 @@
 use Rattle.std.proofs.Common.{◌≡◌, ◌≤◌, ◌+◌, ◌++◌, length, drop, arith}
 use Rattle.ultra_asm.specs.Listing.{listing_from, label_if, is_target, instruction_line}
-use Rattle.ultra_asm.proofs.InBuffer.{begun, continued, ended}
-use Rattle.ultra_asm.proofs.Places.{next_lines, last_line, get_none}
-use Rattle.ultra_asm.proofs.RoundTrip.{reads_back}
+use Rattle.ultra_asm.proofs.{InBuffer.{begun, continued, ended}, Places.{next_lines, last_line, get_none}, RoundTrip.reads_back, canonical.put_program.Goals.{in-Some, in_default}}
 use Rattle.ultra_asm.proofs.canonical.put_program.Goals as goal
-use Rattle.ultra_asm.proofs.canonical.put_program.Goals.{in-Some, in_default}
 
 pub loop-pc-init : goal.loop-pc-init
 loop-pc-init g c = begun _ _

@@ -1,6 +1,4 @@
-use Rattle.std.proofs.Common.{nat_lt, sym, rules, arith}
-use Rattle.std.proofs.lemmas.List.Sorted.{IsPartitionPoint-from_clause, IsPartitionedBy-ltb}
-use Rattle.std.proofs.lemmas.List.Sums.{prefix_len_is}
+use Rattle.std.proofs.{Common.{nat_lt, sym, rules, arith}, lemmas.List.{Sorted.{IsPartitionPoint-from_clause, IsPartitionedBy-ltb}, Sums.prefix_len_is}}
 use Rattle.ultra_asm.proofs.labels.pc_at.Goals as goal
 
 pub returns : goal.returns

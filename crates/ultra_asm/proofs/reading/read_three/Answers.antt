@@ -1,11 +1,8 @@
 -- the operands are read in order, up to the first that is wrong
 use Rattle.std.proofs.Common.{◌≡◌, ◌∙◌, ℕ, ◌<◌, ◌≤◌, List, length, get_or, sym, ap, ap₂, arith}
 use Rattle.std.specs.Prelude.{Result, Ok, Err}
-use Rattle.ultra_asm.specs.declared.AsmFaultKind.{AsmFaultKind}
-use Rattle.ultra_asm.specs.Reading.{three_in, all_three_operands}
-use Rattle.ultra_asm.proofs.Refused.{passed_on}
-use Rattle.ultra_asm.proofs.Counted.{three_are}
-use Rattle.ultra_asm.proofs.Turns.{Lent, texts}
+use Rattle.ultra_asm.specs.{declared.AsmFaultKind.AsmFaultKind, Reading.{three_in, all_three_operands}}
+use Rattle.ultra_asm.proofs.{Refused.passed_on, Counted.three_are, Turns.{Lent, texts}}
 use Rattle.ultra_asm.proofs.reading.read_three.Goals as goal
 
 module _ {A B C : Type 0} (f : List ℕ → Result A AsmFaultKind) (g : List ℕ → Result B AsmFaultKind) (h : List ℕ → Result C AsmFaultKind) where

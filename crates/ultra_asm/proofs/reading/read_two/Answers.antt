@@ -1,11 +1,8 @@
 -- the operands are read in order, up to the first that is wrong
 use Rattle.std.proofs.Common.{◌≡◌, ◌∙◌, ℕ, ◌<◌, ◌≤◌, List, length, get_or, sym, ap, ap₂, arith}
 use Rattle.std.specs.Prelude.{Result, Err}
-use Rattle.ultra_asm.specs.declared.AsmFaultKind.{AsmFaultKind}
-use Rattle.ultra_asm.specs.Reading.{both_operands, two_in}
-use Rattle.ultra_asm.proofs.Refused.{passed_on}
-use Rattle.ultra_asm.proofs.Counted.{two_are}
-use Rattle.ultra_asm.proofs.Turns.{Lent, texts}
+use Rattle.ultra_asm.specs.{declared.AsmFaultKind.AsmFaultKind, Reading.{both_operands, two_in}}
+use Rattle.ultra_asm.proofs.{Refused.passed_on, Counted.two_are, Turns.{Lent, texts}}
 use Rattle.ultra_asm.proofs.reading.read_two.Goals as goal
 
 module _ {A B : Type 0} (f : List ℕ → Result A AsmFaultKind) (g : List ℕ → Result B AsmFaultKind) where

@@ -1,7 +1,4 @@
-use Rattle.std.proofs.Common.{rules, tests}
-use Rattle.std.proofs.lemmas.Iterator.{YieldsList-from_take}
-use Rattle.std.proofs.lemmas.Iterator.Consumers.{map_from_collect, YieldsList-at, YieldsList-from_filter}
-use Rattle.std.proofs.lemmas.Iterator.Splits.{YieldsList-from_slice_split}
+use Rattle.std.proofs.{Common.{rules, tests}, lemmas.Iterator.{YieldsList-from_take, Consumers.{map_from_collect, YieldsList-at, YieldsList-from_filter}, Splits.YieldsList-from_slice_split}}
 use Rattle.ultra_asm.specs.Words.{is_separator}
 use Rattle.ultra_asm.proofs.words.first_words.Goals as goal
 

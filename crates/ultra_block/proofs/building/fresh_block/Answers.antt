@@ -1,5 +1,4 @@
-use Rattle.std.proofs.lemmas.Grind.{common_steps}
-use Rattle.std.proofs.Common.{◌≡◌, arith}
+use Rattle.std.proofs.{lemmas.Grind.common_steps, Common.{◌≡◌, arith}}
 use Rattle.ultra_cycle_law.specs.Whole.{empty_switch}
 use Rattle.ultra_block.specs.Fresh.{first_element, first_module}
 use Rattle.ultra_block.proofs.Built.{is_fresh, row_put}

@@ -1,6 +1,4 @@
-use Rattle.std.proofs.Common.{arith}
-use Rattle.std.proofs.lemmas.Grind.{common_steps}
-use Rattle.std.proofs.{Common.arith, lemmas.List.Edits.map_over_more}
+use Rattle.std.proofs.{Common.arith, lemmas.{Grind.common_steps, List.Edits.map_over_more}}
 use Rattle.ultra_block.proofs.cycle.make.Goals as goal
 
 pub loop-block-preserved : goal.loop-block-preserved

@@ -1,7 +1,10 @@
 use Rattle.std.proofs.Common.{◌≡◌, ℕ, List, [], ◌∷◌, ap, arith}
 use Rattle.ultra_model.specs.Phases.{reply_phase, request_phase}
 use Rattle.ultra_block_core.specs.Making.{after_own_half}
-use Rattle.ultra_partition.{proofs.Common.AreOwnRooms, proofs.Common.AreWhole, proofs.Common.BlockState, proofs.Common.Instr, proofs.Common.Rooms, proofs.Common.SendReplies, proofs.Common.SendRequests, proofs.Common.Serve, proofs.Common.Settings, proofs.Common.TakeReplies, proofs.Common.TakeRequests, proofs.Common.all_open, proofs.Questions.own_are_all, proofs.Whole.Left, proofs.Whole.Made, proofs.Whole.can_execute, proofs.Whole.can_serve, proofs.Whole.can_take_replies, proofs.Whole.can_take_requests, proofs.Whole.come_to_one, proofs.Whole.first, proofs.Whole.middle, proofs.Whole.next, proofs.Whole.replies_left, proofs.Whole.replies_taken, proofs.Whole.requests_left, proofs.Whole.requests_taken, proofs.Whole.served, specs.declared.kind.MessageKind.TheVariants.Replies, specs.declared.kind.MessageKind.TheVariants.Requests}
+use Rattle.ultra_partition.proofs.Common.{AreOwnRooms, AreWhole, BlockState, Instr, Rooms, SendReplies, SendRequests, Serve, Settings, TakeReplies, TakeRequests, all_open}
+use Rattle.ultra_partition.proofs.Questions.{own_are_all}
+use Rattle.ultra_partition.proofs.Whole.{Left, Made, can_execute, can_serve, can_take_replies, can_take_requests, come_to_one, first, middle, next, replies_left, replies_taken, requests_left, requests_taken, served}
+use Rattle.ultra_partition.specs.declared.kind.MessageKind.TheVariants.{Replies, Requests}
 use Rattle.ultra_block.proofs.cycle.make_cycle_of_one.Goals as goal
 
 abbrev one : BlockState → List BlockState

@@ -1,5 +1,6 @@
 use Rattle.std.proofs.Common.{arith}
-use Rattle.ultra_partition.{proofs.Whole.can_execute, proofs.Whole.can_serve, proofs.Whole.can_take_replies, proofs.Whole.can_take_requests, proofs.Whole.left_cut, proofs.Whole.left_single, proofs.Whole.next, proofs.Whole.stages, specs.declared.kind.MessageKind.TheVariants.Replies, specs.declared.kind.MessageKind.TheVariants.Requests}
+use Rattle.ultra_partition.proofs.Whole.{can_execute, can_serve, can_take_replies, can_take_requests, left_cut, left_single, next, stages}
+use Rattle.ultra_partition.specs.declared.kind.MessageKind.TheVariants.{Replies, Requests}
 use Rattle.ultra_block.proofs.cycle.make_cycle_of_several.Goals as goal
 
 pub exchange-requires : goal.exchange-requires

@@ -1,5 +1,4 @@
-use Rattle.std.proofs.Common.{arith}
-use Rattle.std.proofs.lemmas.Grind.{common_steps}
+use Rattle.std.proofs.{Common.arith, lemmas.Grind.common_steps}
 use Rattle.ultra_block_core.proofs.send_requests.send_from_switch.Goals as goal
 
 pub returns-clause-switch : goal.returns-clause-switch

@@ -1,5 +1,4 @@
-use Rattle.std.proofs.lemmas.Grind.{common_steps}
-use Rattle.std.proofs.Common.{arith, get_or-set_other}
+use Rattle.std.proofs.{lemmas.Grind.common_steps, Common.{arith, get_or-set_other}}
 use Rattle.ultra_unit_steps.proofs.Going.{room_left}
 use Rattle.ultra_block_core.proofs.take_replies.take_into_switch.Goals as goal
 

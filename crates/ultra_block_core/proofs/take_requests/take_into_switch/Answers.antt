@@ -1,5 +1,4 @@
-use Rattle.std.proofs.lemmas.Grind.{common_steps}
-use Rattle.std.proofs.Common.{arith, get_or-set_other}
+use Rattle.std.proofs.{lemmas.Grind.common_steps, Common.{arith, get_or-set_other}}
 use Rattle.ultra_block_core.proofs.Common.{combined_alone, combined_both, emptied, emptied_first, emptied_in_turn, none_combined}
 use Rattle.ultra_block_core.proofs.take_requests.take_into_switch.Goals as goal
 use Rattle.ultra_block_core.proofs.take_requests.take_into_switch.Goals.{then-first_combines-second_combines, else-first_combines-second_combines}

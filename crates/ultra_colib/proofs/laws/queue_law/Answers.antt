@@ -1,5 +1,4 @@
-use Rattle.ultra_colib.proofs.Queue.{kept}
-use Rattle.ultra_colib.proofs.NoQueue.{refused}
+use Rattle.ultra_colib.proofs.{Queue.kept, NoQueue.refused}
 use Rattle.ultra_colib.proofs.laws.queue_law.Goals as goal
 
 pub returns : goal.returns

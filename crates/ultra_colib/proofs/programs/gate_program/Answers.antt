@@ -2,10 +2,8 @@ use Rattle.std.proofs.Common.{◌≡◌, ℕ, List, true, sym, ◌∙◌, subst,
 use Rattle.ultra_isa.specs.declared.Instr.{Instr}
 use Rattle.ultra_asm.specs.ProgramText.{IsProgramText}
 use Rattle.ultra_para.specs.Careful.{is_careful}
-use Rattle.ultra_colib.specs.Gate.{gate}
-use Rattle.ultra_colib.specs.Texts.{gate_text}
-use Rattle.ultra_colib.proofs.GateText.{reads}
-use Rattle.ultra_colib.proofs.Given.{well}
+use Rattle.ultra_colib.specs.{Gate.gate, Texts.gate_text}
+use Rattle.ultra_colib.proofs.{GateText.reads, Given.well}
 use Rattle.ultra_colib.proofs.programs.gate_program.Goals as goal
 
 pub returns-clause-program : goal.returns-clause-program

@@ -2,10 +2,8 @@ use Rattle.std.proofs.Common.{◌≡◌, ℕ, List, true, sym, ◌∙◌, subst,
 use Rattle.ultra_isa.specs.declared.Instr.{Instr}
 use Rattle.ultra_asm.specs.ProgramText.{IsProgramText}
 use Rattle.ultra_para.specs.Careful.{is_careful}
-use Rattle.ultra_colib.specs.TicketRounds.{ticket_rounds}
-use Rattle.ultra_colib.specs.Texts.{tickets_text}
-use Rattle.ultra_colib.proofs.TicketRoundsText.{reads}
-use Rattle.ultra_colib.proofs.Given.{well}
+use Rattle.ultra_colib.specs.{TicketRounds.ticket_rounds, Texts.tickets_text}
+use Rattle.ultra_colib.proofs.{TicketRoundsText.reads, Given.well}
 use Rattle.ultra_colib.proofs.programs.tickets_program.Goals as goal
 
 pub returns-clause-program : goal.returns-clause-program

@@ -1,8 +1,5 @@
-use Rattle.ultra_colib.specs.Barrier.{barrier, AreInStep}
-use Rattle.ultra_colib.specs.Parameters.{barrier_takes}
-use Rattle.ultra_colib.proofs.Barrier.{kept}
-use Rattle.ultra_colib.proofs.Given.{rounds_taken}
-use Rattle.ultra_colib.proofs.AfterRun.{law_after_run}
+use Rattle.ultra_colib.specs.{Barrier.{barrier, AreInStep}, Parameters.barrier_takes}
+use Rattle.ultra_colib.proofs.{Barrier.kept, Given.rounds_taken, AfterRun.law_after_run}
 use Rattle.ultra_colib.proofs.runs.run_barrier.Goals as goal
 
 pub returns-clause-state : goal.returns-clause-state

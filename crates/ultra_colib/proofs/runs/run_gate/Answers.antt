@@ -1,7 +1,5 @@
-use Rattle.ultra_colib.specs.Gate.{gate, AreFewInside}
-use Rattle.ultra_colib.specs.Parameters.{gate_takes}
-use Rattle.ultra_colib.proofs.Gate.{kept}
-use Rattle.ultra_colib.proofs.AfterRun.{law_after_run}
+use Rattle.ultra_colib.specs.{Gate.{gate, AreFewInside}, Parameters.gate_takes}
+use Rattle.ultra_colib.proofs.{Gate.kept, AfterRun.law_after_run}
 use Rattle.ultra_colib.proofs.runs.run_gate.Goals as goal
 
 pub returns-clause-state : goal.returns-clause-state

@@ -1,8 +1,5 @@
-use Rattle.ultra_colib.specs.Queue.{queue, AreItemsOnce}
-use Rattle.ultra_colib.specs.Parameters.{queue_takes}
-use Rattle.ultra_colib.proofs.Queue.{kept}
-use Rattle.ultra_colib.proofs.Given.{queue_taken}
-use Rattle.ultra_colib.proofs.AfterRun.{law_after_run}
+use Rattle.ultra_colib.specs.{Queue.{queue, AreItemsOnce}, Parameters.queue_takes}
+use Rattle.ultra_colib.proofs.{Queue.kept, Given.queue_taken, AfterRun.law_after_run}
 use Rattle.ultra_colib.proofs.runs.run_queue.Goals as goal
 
 pub returns-clause-state : goal.returns-clause-state

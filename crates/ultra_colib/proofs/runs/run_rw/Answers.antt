@@ -1,7 +1,5 @@
-use Rattle.ultra_colib.specs.ReadersWriters.{readers_writers, AreWritersAlone}
-use Rattle.ultra_colib.specs.Parameters.{rw_takes}
-use Rattle.ultra_colib.proofs.ReadersWriters.{kept}
-use Rattle.ultra_colib.proofs.AfterRun.{law_after_run}
+use Rattle.ultra_colib.specs.{ReadersWriters.{readers_writers, AreWritersAlone}, Parameters.rw_takes}
+use Rattle.ultra_colib.proofs.{ReadersWriters.kept, AfterRun.law_after_run}
 use Rattle.ultra_colib.proofs.runs.run_rw.Goals as goal
 
 pub returns-clause-state : goal.returns-clause-state

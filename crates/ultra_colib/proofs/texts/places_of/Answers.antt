@@ -1,5 +1,4 @@
-use Rattle.std.proofs.Common.{◌≤◌, ◌^◌, arith}
-use Rattle.std.proofs.Math.Pow.{pow_mono}
+use Rattle.std.proofs.{Common.{◌≤◌, ◌^◌, arith}, Math.Pow.pow_mono}
 use Rattle.ultra_colib.proofs.texts.places_of.Goals as goal
 
 pub returns-clause-few : goal.returns-clause-few

@@ -1,6 +1,5 @@
 -- how each exit is a verdict that is written, or one of the ways in which none is
-use Rattle.std.proofs.Common.{◌≡◌, refl}
-use Rattle.std.proofs.lemmas.Result.{err_from_is_err_and}
+use Rattle.std.proofs.{Common.{◌≡◌, refl}, lemmas.Result.err_from_is_err_and}
 use Rattle.ultra_commands.specs.Check.{refused, not_legal, stopped}
 use Rattle.ultra_commands.proofs.checking.check.Goals as goal
 

@@ -1,10 +1,7 @@
 -- how each exit of a listing is one of the ways in which a listing fails
-use Rattle.std.proofs.Common.{ℕ, Bool, List, ap, refl}
-use Rattle.std.proofs.lemmas.Result.{err_from_is_err_and}
+use Rattle.std.proofs.{Common.{ℕ, Bool, List, ap, refl}, lemmas.Result.err_from_is_err_and}
 use Rattle.ultra_io.specs.Source.{File}
-use Rattle.ultra_inputs.specs.declared.failure.Failure.{Failure}
-use Rattle.ultra_inputs.specs.Inputs.{ExplainsProgram, FileGaveNothing, not_had, not_accepted}
-use Rattle.ultra_inputs.specs.Traffic.{traffic}
+use Rattle.ultra_inputs.specs.{declared.failure.Failure.Failure, Inputs.{ExplainsProgram, FileGaveNothing, not_had, not_accepted}, Traffic.traffic}
 use Rattle.ultra_commands.specs.Listing.{ListFails, unread_text, refused_text, unwritten, not_careful}
 use Rattle.ultra_commands.proofs.listing.list.Goals as goal
 

@@ -1,6 +1,5 @@
 -- how each exit is one of the ways in which a run by a file's schedule isn't written
-use Rattle.std.proofs.Common.{◌≡◌, refl}
-use Rattle.std.proofs.lemmas.Result.{err_from_is_err_and}
+use Rattle.std.proofs.{Common.{◌≡◌, refl}, lemmas.Result.err_from_is_err_and}
 use Rattle.ultra_commands.specs.Paracomputer.{refused, stopped}
 use Rattle.ultra_commands.proofs.para.para_by_file.Goals as goal
 

@@ -2,9 +2,7 @@
 use Rattle.std.proofs.Common.{◌≡◌, ℕ, ◌+◌, arith, inl, inr, refl, ap}
 use Rattle.std.specs.Prelude.{Result, Ok, Err, IfErr, OnErr}
 use Rattle.std.proofs.lemmas.Result.{err_from_is_err_and, on_ok_weaker}
-use Rattle.ultra_inputs.specs.declared.failure.Failure.{Failure}
-use Rattle.ultra_inputs.specs.Failure.{read_failures}
-use Rattle.ultra_inputs.specs.Traffic.{IsStopped, refused, stopped}
+use Rattle.ultra_inputs.specs.{declared.failure.Failure.Failure, Failure.read_failures, Traffic.{IsStopped, refused, stopped}}
 use Rattle.ultra_commands.proofs.run_output.write_run_output.Goals as goal
 
 -- a text that ends early hasn't read a file

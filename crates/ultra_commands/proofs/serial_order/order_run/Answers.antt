@@ -1,8 +1,7 @@
 -- the order of the cycles that the trace has is that of all cycles that the settings allow
 use Rattle.std.proofs.Common.{◌≡◌, ◌∙◌, ap, inl, refl, sym}
 use Rattle.std.proofs.lemmas.Result.{err_from_is_err_and}
-use Rattle.ultra_msg.proofs.Parts.{at_error}
-use Rattle.ultra_msg.proofs.Prefixes.{takes_none}
+use Rattle.ultra_msg.proofs.{Parts.at_error, Prefixes.takes_none}
 use Rattle.ultra_serial_law.specs.SerialList.{serial_list}
 use Rattle.ultra_serial.specs.OrderedRunState.{OrderedRunState, whole_list}
 use Rattle.ultra_commands.specs.Order.{order_of, order_text}

@@ -1,6 +1,5 @@
 -- what the sink has taken when the buffer is let go
-use Rattle.std.proofs.Common.{rules, inl, inr, refl}
-use Rattle.std.proofs.lemmas.Result.{err_from_is_err_and}
+use Rattle.std.proofs.{Common.{rules, inl, inr, refl}, lemmas.Result.err_from_is_err_and}
 use Rattle.ultra_msg.proofs.Parts.{at_error}
 use Rattle.ultra_io.proofs.Writing.{finished, part_taken}
 use Rattle.ultra_serial.specs.OrderedRunState.{whole_list}

@@ -1,5 +1,4 @@
-use Rattle.std.proofs.Common.{◌≡◌, ◌++◌, ◌∷◌, []}
-use Rattle.std.proofs.lemmas.Result.{IfErr-weaker}
+use Rattle.std.proofs.{Common.{◌≡◌, ◌++◌, ◌∷◌, []}, lemmas.Result.IfErr-weaker}
 use Rattle.ultra_io.specs.Source.{file_of}
 use Rattle.ultra_inputs.specs.Inputs.{FileGaveNothing, not_accepted}
 use Rattle.ultra_commands.proofs.third_file.read_third.Goals as goal

@@ -1,8 +1,7 @@
 -- how each exit of a run is one of the ways in which a run fails
 use Rattle.std.proofs.Common.{◌≡◌, ◌≢◌, ◌∙◌, ◌≤◌, ℕ, arith, inl, inr, refl}
 use Rattle.std.proofs.lemmas.Result.{err_from_is_err_and}
-use Rattle.ultra_trace.specs.RunFault.{RunFault}
-use Rattle.ultra_trace.specs.RunFault.TheVariants.{Write, NoMemory, NoThread}
+use Rattle.ultra_trace.specs.RunFault.{RunFault, TheVariants.{Write, NoMemory, NoThread}}
 use Rattle.ultra_inputs.specs.Traffic.{refused, stopped}
 use Rattle.ultra_commands.specs.Stops.{failure_of_run, IsStoppedBy}
 use Rattle.ultra_commands.proofs.Parts.{all_is_trace}

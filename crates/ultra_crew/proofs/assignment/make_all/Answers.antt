@@ -1,6 +1,5 @@
 use Rattle.std.proofs.Common.{arith, refl}
-use Rattle.ultra_crew.specs.Tasks.{CanBeMade, task_after_own_half}
-use Rattle.ultra_crew.specs.declared.task.BlockTask.{BlockTask}
+use Rattle.ultra_crew.specs.{Tasks.{CanBeMade, task_after_own_half}, declared.task.BlockTask.BlockTask}
 use Rattle.ultra_block_core.proofs.OwnProgram.{can_by_own}
 use Rattle.ultra_crew.proofs.Mapped.{all_done, holds_next, stepped}
 use Rattle.ultra_crew.proofs.assignment.make_all.Goals as goal

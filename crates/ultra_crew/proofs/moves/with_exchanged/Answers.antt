@@ -1,5 +1,4 @@
-use Rattle.std.proofs.Common.{arith}
-use Rattle.std.proofs.lemmas.List.{with_items_is}
+use Rattle.std.proofs.{Common.arith, lemmas.List.with_items_is}
 use Rattle.ultra_crew.proofs.Exchanged.{are_exchanged}
 use Rattle.ultra_crew.proofs.moves.with_exchanged.Goals as goal
 

@@ -1,8 +1,7 @@
 use Rattle.std.proofs.Common.{rules, ◌≡◌, ◌<◌, ◌-◌, ◌+◌, ◌%◌, ℕ, List, length, take, drop, reverse, arith, ap, ◌∙◌, sym, Vec, Global, slice_index_or}
 use Rattle.std.proofs.lemmas.List.{drop_all, length-set, reverse-reverse, take_all, take_at}
 use Rattle.ultra_block_core.specs.BlockState.{BlockState}
-use Rattle.ultra_crew.specs.declared.task.BlockTask.{BlockTask}
-use Rattle.ultra_crew.specs.Tasks.{AreTeams, tasks_from, team}
+use Rattle.ultra_crew.specs.{declared.task.BlockTask.BlockTask, Tasks.{AreTeams, tasks_from, team}}
 use Rattle.ultra_crew.proofs.Gathered.{gathered_next, left_next, none_left, not_done}
 use Rattle.ultra_crew.proofs.teams.collect_from_teams.Goals as goal
 

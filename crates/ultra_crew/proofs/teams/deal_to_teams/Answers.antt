@@ -1,7 +1,6 @@
 use Rattle.std.proofs.Common.{refl, ◌≡◌, ◌%◌, length, subst, [], ◌∷◌, ◌++◌, arith, ap, ◌∙◌, sym, length-append}
-use Rattle.std.proofs.lemmas.List.{length-set, map-id, take_all}
+use Rattle.std.proofs.lemmas.{List.{length-set, map-id, take_all}, Iterator.Consumers.{YieldsList-from_shown, YieldsList-turn, YieldsList-end}}
 use Rattle.std.specs.Vec.Iter.{drain_items, drain_steps}
-use Rattle.std.proofs.lemmas.Iterator.Consumers.{YieldsList-from_shown, YieldsList-turn, YieldsList-end}
 use Rattle.ultra_crew.specs.Tasks.{AreTeams, task, tasks_from, team}
 use Rattle.ultra_crew.proofs.TasksDealt.{dealt_next, tasks_more}
 use Rattle.ultra_crew.proofs.teams.deal_to_teams.Goals as goal

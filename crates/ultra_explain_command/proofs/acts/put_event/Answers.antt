@@ -1,9 +1,7 @@
 use Rattle.std.proofs.Common.{◌≡◌, ◌∙◌, true, false, refl, ap}
 use Rattle.ultra_msg.proofs.Prefixes.{takes_none}
 use Rattle.ultra_msg.specs.declared.Event.{Event}
-use Rattle.ultra_tree.specs.Absorb.{ExplainerState, ExplainsExplainFault, IsCombination}
-use Rattle.ultra_tree.specs.declared.explaining.ExplainFault.{ExplainFault}
-use Rattle.ultra_tree.specs.declared.explaining.ExplainFault.TheVariants.{Full, Spent}
+use Rattle.ultra_tree.specs.{Absorb.{ExplainerState, ExplainsExplainFault, IsCombination}, declared.explaining.ExplainFault.{ExplainFault, TheVariants.{Full, Spent}}}
 use Rattle.ultra_explain_command.proofs.acts.put_event.Goals as goal
 
 -- an explainer that wasn't spent is so now, after a combination

@@ -1,7 +1,5 @@
 use Rattle.std.proofs.Common.{◌∙◌, ap, refl, sym, append-nil, ◌++◌}
-use Rattle.std.proofs.lemmas.List.{take_all}
-use Rattle.std.proofs.lemmas.Option.{slice_get-get_or}
-use Rattle.std.proofs.lemmas.Result.{err_from_is_err_and}
+use Rattle.std.proofs.lemmas.{List.take_all, Option.slice_get-get_or, Result.err_from_is_err_and}
 use Rattle.ultra_tree.specs.Absorb.{ExplainerState}
 use Rattle.ultra_explain_command.specs.Explanation.{event_lines, trees_after_all}
 use Rattle.ultra_explain_command.proofs.Firsts.{absorbed_next, begun_there, left_come, put_next}

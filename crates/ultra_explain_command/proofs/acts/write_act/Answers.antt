@@ -1,7 +1,6 @@
 use Rattle.std.proofs.Common.{Ok, Err, codes, refl}
 use Rattle.ultra_msg.proofs.Writing.{writes_then, writes_failed}
-use Rattle.ultra_tree.specs.Seen.{seen}
-use Rattle.ultra_tree.specs.Text.{tree_text}
+use Rattle.ultra_tree.specs.{Seen.seen, Text.tree_text}
 use Rattle.ultra_explain_command.proofs.acts.write_act.Goals as goal
 
 pub returns-in_err-write_place : goal.returns-in_err-write_place

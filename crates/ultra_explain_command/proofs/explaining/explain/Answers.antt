@@ -4,10 +4,7 @@ use Rattle.std.specs.Prelude.{Result, Ok, Err, IfErr, OnErr}
 use Rattle.std.proofs.lemmas.Result.{err_from_is_err_and, IfErr-weaker, on_ok_weaker}
 use Rattle.ultra_io.specs.Source.{File}
 use Rattle.ultra_inputs.specs.Inputs.{IsUnread, ExplainsSettings, ExplainsProgram, GaveNothing, unread_settings, refused_settings, unread_program, refused_program}
-use Rattle.ultra_inputs.specs.Traffic.{refused, stopped}
-use Rattle.ultra_inputs.specs.Failure.{read_failures}
-use Rattle.ultra_inputs.specs.declared.failure.Failure.{Failure}
-use Rattle.ultra_inputs.specs.declared.failure.Failure.TheVariants.{HeapFull}
+use Rattle.ultra_inputs.specs.{Traffic.{refused, stopped}, Failure.read_failures, declared.failure.Failure.{Failure, TheVariants.HeapFull}}
 use Rattle.ultra_explain_command.specs.Explanation.{IsCutShort}
 use Rattle.ultra_explain_command.proofs.InRange.{accepted_in_range}
 use Rattle.ultra_explain_command.proofs.explaining.explain.Goals as goal

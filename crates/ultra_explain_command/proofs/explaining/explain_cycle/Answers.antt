@@ -1,11 +1,8 @@
 use Rattle.std.proofs.Common.{◌≡◌, ℕ, ◌+◌, ◌⊎◌, arith, ap, inl, inr, refl, ⊎_elim}
 use Rattle.std.specs.Prelude.{Result, Ok, Err, IfErr}
 use Rattle.std.proofs.lemmas.Result.{err_from_is_err_and, on_ok_weaker}
-use Rattle.ultra_msg.proofs.Parts.{at_error}
-use Rattle.ultra_msg.proofs.Prefixes.{all_passed_on, more_waits, takes_all}
-use Rattle.ultra_inputs.specs.Failure.{write_failures}
-use Rattle.ultra_inputs.specs.declared.failure.Failure.{Failure}
-use Rattle.ultra_inputs.specs.declared.failure.Failure.TheVariants.{HeapFull, NoMemory}
+use Rattle.ultra_msg.proofs.{Parts.at_error, Prefixes.{all_passed_on, more_waits, takes_all}}
+use Rattle.ultra_inputs.specs.{Failure.write_failures, declared.failure.Failure.{Failure, TheVariants.{HeapFull, NoMemory}}}
 use Rattle.ultra_explain_command.specs.Explanation.{event_lines, AreLinesCut}
 use Rattle.ultra_explain_command.proofs.Firsts.{at_success, passed_on, put_part, stops_behind}
 use Rattle.ultra_explain_command.proofs.explaining.explain_cycle.Goals as goal

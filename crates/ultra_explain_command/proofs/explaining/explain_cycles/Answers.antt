@@ -6,10 +6,9 @@ use Rattle.ultra_machine.specs.MachineState.{MachineState}
 use Rattle.ultra_model.specs.Machine.{Settings, is_quiet}
 use Rattle.ultra_serial.proofs.Cycles.{cycles_after, running_start, running_next, history_start}
 use Rattle.ultra_explain_command.specs.Explanation.{lines_of_first}
-use Rattle.ultra_explain_command.proofs.LastCycle.{whole_lines}
+use Rattle.ultra_explain_command.proofs.{LastCycle.whole_lines, explaining.explain_cycles.Goals.{else-loop-cycle-test, then-loop-cycle-test+in_ok-explain_cycle+then-is_quiet}}
 use Rattle.ultra_explain_command.proofs.Runs.{no_lines, quiet_lines, can_come, explained_next, written_next, begun_next, full_there}
 use Rattle.ultra_explain_command.proofs.explaining.explain_cycles.Goals as goal
-use Rattle.ultra_explain_command.proofs.explaining.explain_cycles.Goals.{else-loop-cycle-test, then-loop-cycle-test+in_ok-explain_cycle+then-is_quiet}
 
 pub loop-cycle-init : goal.loop-cycle-init
 loop-cycle-init g c =

@@ -2,9 +2,7 @@ use Rattle.std.proofs.Common.{◌≡◌, ℕ, ◌+◌, ◌++◌, ◌∙◌, arit
 use Rattle.std.specs.Prelude.{Result, Ok, Err, IfErr, OnErr}
 use Rattle.std.proofs.lemmas.Result.{err_from_is_err_and, IfErr-weaker, on_ok_weaker, on_err_weaker}
 use Rattle.ultra_msg.proofs.Prefixes.{rest_cut, rest_passed_on}
-use Rattle.ultra_inputs.specs.Failure.{write_failures}
-use Rattle.ultra_inputs.specs.declared.failure.Failure.{Failure}
-use Rattle.ultra_inputs.specs.declared.failure.Failure.TheVariants.{NotWritten}
+use Rattle.ultra_inputs.specs.{Failure.write_failures, declared.failure.Failure.{Failure, TheVariants.NotWritten}}
 use Rattle.ultra_explain_command.proofs.explaining.explain_machine.Goals as goal
 
 counted_once : {T : Type 0} (r : Result T Failure) (old now new : ℕ) → now ≡ old → IfErr r (λ f. f ≡ NotWritten) → OnErr r (new ≡ now + 1) → IfErr r (λ f. new ≡ old + write_failures f)

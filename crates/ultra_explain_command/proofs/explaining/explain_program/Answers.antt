@@ -1,7 +1,5 @@
-use Rattle.std.proofs.Common.{inl, inr, refl}
-use Rattle.std.proofs.lemmas.Result.{err_from_is_err_and}
-use Rattle.ultra_msg.proofs.Parts.{at_error}
-use Rattle.ultra_msg.proofs.Prefixes.{takes_none}
+use Rattle.std.proofs.{Common.{inl, inr, refl}, lemmas.Result.err_from_is_err_and}
+use Rattle.ultra_msg.proofs.{Parts.at_error, Prefixes.takes_none}
 use Rattle.ultra_explain_command.proofs.explaining.explain_program.Goals as goal
 
 pub returns-in_err-machine-clause-ok : goal.returns-in_err-machine-clause-ok

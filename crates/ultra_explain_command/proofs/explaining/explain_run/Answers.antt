@@ -1,9 +1,6 @@
-use Rattle.std.proofs.Common.{◌≡◌, inl, inr, refl}
-use Rattle.std.proofs.lemmas.Result.{err_from_is_err_and, IfErr-weaker}
-use Rattle.ultra_msg.proofs.Parts.{at_error}
-use Rattle.ultra_msg.proofs.Prefixes.{takes_none}
-use Rattle.ultra_inputs.specs.declared.failure.Failure.{Failure}
-use Rattle.ultra_inputs.specs.declared.failure.Failure.TheVariants.{HeapTooSmall}
+use Rattle.std.proofs.{Common.{◌≡◌, inl, inr, refl}, lemmas.Result.{err_from_is_err_and, IfErr-weaker}}
+use Rattle.ultra_msg.proofs.{Parts.at_error, Prefixes.takes_none}
+use Rattle.ultra_inputs.specs.declared.failure.Failure.{Failure, TheVariants.HeapTooSmall}
 use Rattle.ultra_explain_command.specs.Explanation.{AreLinesCut}
 use Rattle.ultra_explain_command.proofs.explaining.explain_run.Goals as goal
 

@@ -1,8 +1,7 @@
 -- the size that was asked for is that of the heap
 use Rattle.std.proofs.Common.{◌≡◌, ℕ, subst}
 use Rattle.std.specs.Prelude.{IfOk}
-use Rattle.linked_list_allocator.specs.Heap.{heap_size}
-use Rattle.linked_list_allocator.specs.Region.{block_size}
+use Rattle.linked_list_allocator.specs.{Heap.heap_size, Region.block_size}
 use Rattle.ultra_explain_command.proofs.explaining.new_heap.Goals as goal
 
 pub returns : goal.returns

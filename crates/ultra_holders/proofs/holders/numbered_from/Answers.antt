@@ -1,8 +1,7 @@
 use Rattle.std.proofs.Common.{◌≡◌, ◌+◌, ◌-◌, ◌%◌, refl, sym, arith, rules}
 use Rattle.ultra_topology.specs.Set.{word_end}
-use Rattle.ultra_holders.proofs.Bits.{none_from, with_others}
+use Rattle.ultra_holders.proofs.{Bits.{none_from, with_others}, holders.numbered_from.Goals.{then-is_empty, else-is_empty}}
 use Rattle.ultra_holders.proofs.holders.numbered_from.Goals as goal
-use Rattle.ultra_holders.proofs.holders.numbered_from.Goals.{then-is_empty, else-is_empty}
 
 pub returns-then-this-ne0 : goal.returns-then-this-ne0
 returns-then-this-ne0 g c =

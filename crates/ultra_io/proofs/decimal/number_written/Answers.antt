@@ -1,7 +1,6 @@
 use Rattle.std.proofs.Common.{◌∙◌, ◌≤◌, ◌+◌, ◌^◌, ap, sym, take, Some, arith}
 use Rattle.std.specs.Str.Parse.{digits_value}
-use Rattle.std.proofs.lemmas.List.{take_all}
-use Rattle.std.proofs.lemmas.Int.Digits.{digits_more}
+use Rattle.std.proofs.lemmas.{List.take_all, Int.Digits.digits_more}
 use Rattle.ultra_io.proofs.Numerals.{digit_below_ten, number_is, number_not_digit, number_too_large, value_more}
 use Rattle.ultra_io.proofs.decimal.number_written.Goals as goal
 

@@ -1,9 +1,6 @@
 use Rattle.std.proofs.Common.{◌≡◌, ◌++◌, ℕ, List, Option, Some, None, MatchOption, sym, ap, ◌∙◌}
-use Rattle.std.specs.Prelude.{◌≢◌}
-use Rattle.std.specs.Option.{option_copied}
-use Rattle.std.specs.Borrow.{Bor}
-use Rattle.std.proofs.lemmas.Slice.Eq.{strip_prefix_is}
-use Rattle.std.proofs.lemmas.Bool.Decides.{Decides-eqb}
+use Rattle.std.specs.{Prelude.◌≢◌, Option.option_copied, Borrow.Bor}
+use Rattle.std.proofs.lemmas.{Slice.Eq.strip_prefix_is, Bool.Decides.Decides-eqb}
 use Rattle.ultra_list.specs.Reading.{rest_after}
 use Rattle.ultra_list.proofs.Exact.{after_back, after_none}
 use Rattle.ultra_list.proofs.number.rest_after.Goals as goal

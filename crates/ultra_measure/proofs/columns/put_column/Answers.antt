@@ -1,8 +1,7 @@
 use Rattle.std.proofs.Common.{sym, subst, ⊎_elim}
 use Rattle.ultra_io.specs.TextBuffer.{Writes}
 use Rattle.ultra_io.proofs.Writing.{◌then◌}
-use Rattle.ultra_measure.specs.declared.columns.Form.{Form}
-use Rattle.ultra_measure.specs.Rows.{column_text, name_text, value_if}
+use Rattle.ultra_measure.specs.{declared.columns.Form.Form, Rows.{column_text, name_text, value_if}}
 use Rattle.ultra_measure.proofs.columns.put_column.Goals as goal
 
 pub returns-in-Values : goal.returns-in-Values

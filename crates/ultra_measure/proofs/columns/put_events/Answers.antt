@@ -1,13 +1,9 @@
 use Rattle.std.proofs.Common.{ℕ, List, ◌≡◌, ◌^◌, ◌∙◌, ap, length, min, max, slice_index, arith}
-use Rattle.std.specs.Prelude.{codes, sum}
-use Rattle.std.specs.List.{reduce}
+use Rattle.std.specs.{Prelude.{codes, sum}, List.reduce}
 use Rattle.ultra_model.specs.Machine.{Settings, size}
 use Rattle.ultra_latency.specs.Latency.{latencies as latencies_in}
-use Rattle.ultra_measure.specs.Columns.{number_if, mean_if}
-use Rattle.ultra_measure.specs.EventKinds.{is_issue, is_delivery, is_act, is_act_of, is_combination}
-use Rattle.ultra_measure.specs.Window.{greatest, event_count, sum_of}
-use Rattle.ultra_measure.proofs.Chain.{numbered, valued, one_column, more_columns}
-use Rattle.ultra_measure.proofs.More.{greatest_same}
+use Rattle.ultra_measure.specs.{Columns.{number_if, mean_if}, EventKinds.{is_issue, is_delivery, is_act, is_act_of, is_combination}, Window.{greatest, event_count, sum_of}}
+use Rattle.ultra_measure.proofs.{Chain.{numbered, valued, one_column, more_columns}, More.greatest_same}
 use Rattle.ultra_measure.proofs.columns.put_events.Goals as goal
 
 pub returns : goal.returns

@@ -1,9 +1,7 @@
 use Rattle.std.proofs.Common.{sym, subst}
 use Rattle.ultra_io.specs.TextBuffer.{Writes}
 use Rattle.ultra_io.proofs.Writing.{◌then◌}
-use Rattle.ultra_measure.specs.declared.columns.Form.{Form}
-use Rattle.ultra_measure.specs.Columns.{number}
-use Rattle.ultra_measure.specs.Rows.{first_text}
+use Rattle.ultra_measure.specs.{declared.columns.Form.Form, Columns.number, Rows.first_text}
 use Rattle.ultra_measure.proofs.columns.put_first.Goals as goal
 
 pub returns-in-JobValues : goal.returns-in-JobValues

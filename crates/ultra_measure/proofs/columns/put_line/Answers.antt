@@ -2,9 +2,7 @@ use Rattle.std.proofs.Common.{sym, subst}
 use Rattle.std.specs.Prelude.{Option}
 use Rattle.ultra_io.specs.TextBuffer.{Writes}
 use Rattle.ultra_io.proofs.Writing.{◌then◌}
-use Rattle.ultra_measure.specs.declared.columns.Value.{Value}
-use Rattle.ultra_measure.specs.Rows.{name_text, value_if}
-use Rattle.ultra_measure.specs.Texts.{line_if}
+use Rattle.ultra_measure.specs.{declared.columns.Value.Value, Rows.{name_text, value_if}, Texts.line_if}
 use Rattle.ultra_measure.proofs.columns.put_line.Goals as goal
 
 pub returns-in-Some : goal.returns-in-Some

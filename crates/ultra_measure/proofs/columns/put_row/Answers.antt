@@ -1,6 +1,5 @@
 use Rattle.std.proofs.Common.{◌++◌, ap, ◌∙◌}
-use Rattle.std.specs.Prelude.{codes}
-use Rattle.std.specs.List.{flat_map, range_with_len}
+use Rattle.std.specs.{Prelude.codes, List.{flat_map, range_with_len}}
 use Rattle.ultra_model.specs.Machine.{Settings}
 use Rattle.ultra_measure.specs.Columns.{measures, setting_columns, event_columns, state_columns, stage_columns}
 use Rattle.ultra_measure.proofs.Chain.{numbered, both_columns, whole_row}

@@ -1,11 +1,7 @@
 use Rattle.std.proofs.Common.{◌≡◌, ◌∙◌, ap, nat_lt}
 use Rattle.std.specs.Prelude.{codes}
-use Rattle.ultra_model.specs.Machine.{Settings, size}
-use Rattle.ultra_model.specs.Balance.{total}
-use Rattle.ultra_measure.specs.Columns.{in_stage, of_stage}
-use Rattle.ultra_measure.specs.EventKinds.{is_combination_in}
-use Rattle.ultra_measure.specs.Held.{requests, replies, records, full_waits}
-use Rattle.ultra_measure.specs.Window.{greatest, event_count, most_of, sum_of}
+use Rattle.ultra_model.specs.{Machine.{Settings, size}, Balance.total}
+use Rattle.ultra_measure.specs.{Columns.{in_stage, of_stage}, EventKinds.is_combination_in, Held.{requests, replies, records, full_waits}, Window.{greatest, event_count, most_of, sum_of}}
 use Rattle.ultra_measure.proofs.Chain.{valued, one_column, more_columns, same_in_stage}
 use Rattle.ultra_measure.proofs.columns.put_stage.Goals as goal
 

@@ -1,7 +1,6 @@
 use Rattle.std.specs.List.{flat_map, range_with_len}
 use Rattle.ultra_io.specs.TextBuffer.{Writes}
-use Rattle.ultra_measure.specs.Columns.{stage_columns}
-use Rattle.ultra_measure.specs.Rows.{columns_text}
+use Rattle.ultra_measure.specs.{Columns.stage_columns, Rows.columns_text}
 use Rattle.ultra_measure.proofs.columns.put_stages.Given as goal
 
 abbrev pub invariant-loop-stage : goal.invariant-loop-stage

@@ -1,7 +1,6 @@
 use Rattle.std.proofs.Common.{◌∙◌, ap}
 use Rattle.std.specs.Prelude.{codes}
-use Rattle.ultra_model.specs.Machine.{size}
-use Rattle.ultra_model.specs.Balance.{total}
+use Rattle.ultra_model.specs.{Machine.size, Balance.total}
 use Rattle.ultra_measure.specs.Held.{running, stalled, opened, pending, waiting_in, waiting_out}
 use Rattle.ultra_measure.specs.Window.{greatest, most_of, sum_of}
 use Rattle.ultra_measure.proofs.Chain.{numbered, one_column, more_columns}

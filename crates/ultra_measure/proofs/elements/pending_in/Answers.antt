@@ -1,12 +1,10 @@
 use Rattle.std.proofs.Common.{◌+◌, ◌^◌, ◌∙◌, length, length-append, refl, sym, ap, arith}
-use Rattle.ultra_topology.specs.Numbers.{element_number}
-use Rattle.ultra_topology.specs.Set.{has_unit}
+use Rattle.ultra_topology.specs.{Numbers.element_number, Set.has_unit}
 use Rattle.ultra_holders.specs.Holders.{holders_left, numbers_in}
 use Rattle.ultra_holders.proofs.Skipped.{few_pass}
 use Rattle.ultra_measure.specs.Held.{pending}
-use Rattle.ultra_measure.proofs.Gathered.{added, topmost}
+use Rattle.ultra_measure.proofs.{Gathered.{added, topmost}, InterfaceSums.{pending_sum, pending_most}}
 use Rattle.ultra_measure.proofs.Counted.{none_counted, one_more, sum_of_all, most_of_all, next_within, next_fits}
-use Rattle.ultra_measure.proofs.InterfaceSums.{pending_sum, pending_most}
 use Rattle.ultra_measure.proofs.elements.pending_in.Goals as goal
 
 pub loop-pe-init : goal.loop-pe-init

@@ -2,8 +2,7 @@ use Rattle.std.proofs.Common.{◌∙◌, sym, ap, subst, arith}
 use Rattle.ultra_io.specs.TextBuffer.{Writes}
 use Rattle.ultra_io.proofs.Writing.{◌then◌}
 use Rattle.ultra_model.specs.Machine.{Settings}
-use Rattle.ultra_measure.specs.declared.measuring.Layout.{Layout}
-use Rattle.ultra_measure.specs.Texts.{measured}
+use Rattle.ultra_measure.specs.{declared.measuring.Layout.Layout, Texts.measured}
 use Rattle.ultra_measure.proofs.Windows.{lines_are, table_is, rows_are}
 use Rattle.ultra_measure.proofs.measuring.put_measures.Goals as goal
 

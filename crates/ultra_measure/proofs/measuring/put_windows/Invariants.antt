@@ -1,9 +1,7 @@
 use Rattle.std.proofs.Common.{ℕ, ◌≡◌, ◌*◌, ◌-◌}
 use Rattle.ultra_model.specs.Trace.{by_number}
 use Rattle.ultra_io.specs.TextBuffer.{Writes}
-use Rattle.ultra_measure.specs.Rows.{row_text}
-use Rattle.ultra_measure.specs.Running.{IsOn}
-use Rattle.ultra_measure.specs.Texts.{window_of}
+use Rattle.ultra_measure.specs.{Rows.row_text, Running.IsOn, Texts.window_of}
 use Rattle.ultra_measure.proofs.measuring.put_windows.Given as goal
 
 abbrev pub invariant-loop-from : goal.invariant-loop-from

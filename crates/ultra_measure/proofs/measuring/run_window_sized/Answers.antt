@@ -2,8 +2,7 @@ use Rattle.std.proofs.Common.{ℕ, Bool, ◌≡◌, ◌+◌, ◌∙◌, refl, sy
 use Rattle.std.specs.Prelude.{Option, ◌==◌, None, IsSome}
 use Rattle.ultra_model.specs.Machine.{Settings, is_quiet}
 use Rattle.ultra_trace_alone.proofs.Count.{done_after}
-use Rattle.ultra_measure.specs.Rows.{ended_if}
-use Rattle.ultra_measure.specs.Running.{IsWindowRun}
+use Rattle.ultra_measure.specs.{Rows.ended_if, Running.IsWindowRun}
 use Rattle.ultra_measure.proofs.Ends.{count_beyond, ending_is, over_is, on_is, not_ended, none_is, not_none, no_end}
 use Rattle.ultra_measure.proofs.Windows.{one_next, net_next, run_next, kept_next, table_next, next_now, kept_done, quiet_next}
 use Rattle.ultra_measure.proofs.measuring.run_window_sized.Goals as goal

@@ -1,7 +1,6 @@
 use Rattle.std.proofs.Common.{◌≡◌, ◌<◌}
 use Rattle.ultra_trace_alone.proofs.Count.{IsBusy}
-use Rattle.ultra_measure.specs.Kept.{IsKept}
-use Rattle.ultra_measure.specs.Running.{AreAfter}
+use Rattle.ultra_measure.specs.{Kept.IsKept, Running.AreAfter}
 use Rattle.ultra_measure.proofs.measuring.run_window_sized.Given as goal
 
 abbrev pub invariant-loop-cycle : goal.invariant-loop-cycle

@@ -1,6 +1,5 @@
 use Rattle.std.proofs.Common.{◌+◌, ◌^◌, ◌++◌, [], ◌∷◌, length, length-append, append-nil, append_assoc, refl, sym, ap, ◌∙◌, arith}
-use Rattle.ultra_topology.specs.Numbers.{module_number}
-use Rattle.ultra_topology.specs.Set.{has_unit}
+use Rattle.ultra_topology.specs.{Numbers.module_number, Set.has_unit}
 use Rattle.ultra_holders.specs.Holders.{holders_left}
 use Rattle.ultra_holders.proofs.Skipped.{few_pass}
 use Rattle.ultra_measure.proofs.registers.count_modules.Goals as goal

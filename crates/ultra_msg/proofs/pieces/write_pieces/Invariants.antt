@@ -1,6 +1,5 @@
 use Rattle.std.proofs.Common.{drop}
-use Rattle.ultra_msg.specs.declared.sink.SinkFault.{SinkFault}
-use Rattle.ultra_msg.specs.Bytes.{joined_pieces}
+use Rattle.ultra_msg.specs.{declared.sink.SinkFault.SinkFault, Bytes.joined_pieces}
 use Rattle.ultra_msg.proofs.Writing.{IsSoFar}
 use Rattle.ultra_msg.proofs.pieces.write_pieces.Given as goal
 

@@ -1,5 +1,4 @@
-use Rattle.std.proofs.lemmas.Grind.{common_steps}
-use Rattle.std.proofs.Common.{◌∙◌, ap, get_or, arith}
+use Rattle.std.proofs.{lemmas.Grind.common_steps, Common.{◌∙◌, ap, get_or, arith}}
 use Rattle.ultra_msg.proofs.Moving.{moved_on}
 use Rattle.ultra_msg.proofs.taking.take_out.Goals as goal
 

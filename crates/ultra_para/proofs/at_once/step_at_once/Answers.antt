@@ -2,9 +2,7 @@ use Rattle.std.proofs.Common.{◌≡◌, ℕ, ◌<◌, ◌≤◌, List, length, 
 use Rattle.std.specs.Prelude.{Some, IfSome, slice_get}
 use Rattle.ultra_msg.specs.declared.Request.{Request}
 use Rattle.ultra_pni.specs.Interface.{Interface, empty_interface, SizedInterface}
-use Rattle.ultra_isa.specs.declared.Instr.{Instr}
-use Rattle.ultra_isa.specs.Instruction.{Site}
-use Rattle.ultra_isa.specs.Step.{Core, step_of}
+use Rattle.ultra_isa.specs.{declared.Instr.Instr, Instruction.Site, Step.{Core, step_of}}
 use Rattle.ultra_para.proofs.Sending.{pending_is_sent, can_deliver}
 use Rattle.ultra_para.proofs.at_once.step_at_once.Goals as goal
 

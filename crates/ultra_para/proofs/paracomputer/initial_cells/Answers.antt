@@ -1,6 +1,5 @@
 use Rattle.std.proofs.Common.{ℕ, ◌*◌, ◌<◌, ◌∙◌, ap, sym, take, get_or, set, All}
-use Rattle.std.proofs.lemmas.List.{take_more}
-use Rattle.std.proofs.lemmas.List.Elements.{All-get_or}
+use Rattle.std.proofs.lemmas.List.{take_more, Elements.All-get_or}
 use Rattle.ultra_model.specs.Machine.{size}
 use Rattle.ultra_para.proofs.Starting.{cells_given, none_given, one_given_more}
 use Rattle.ultra_para.proofs.paracomputer.initial_cells.Goals as goal

@@ -1,5 +1,4 @@
-use Rattle.std.proofs.Common.{◌*◌}
-use Rattle.std.proofs.Math.Nat.{mod-add-mod}
+use Rattle.std.proofs.{Common.◌*◌, Math.Nat.mod-add-mod}
 use Rattle.ultra_para_run.specs.SeededSchedule.{next_number}
 use Rattle.ultra_para_run.proofs.drawing.next_number.Goals as goal
 

@@ -1,6 +1,5 @@
-use Rattle.std.proofs.Common.{◌≡◌, sym, ◌∙◌, ap, subst}
+use Rattle.std.proofs.{Common.{◌≡◌, sym, ◌∙◌, ap, subst}, lemmas.List.get_or-map}
 use Rattle.std.specs.Prelude.{slice_index_or}
-use Rattle.std.proofs.lemmas.List.{get_or-map}
 use Rattle.ultra_io.specs.TextBuffer.{Writes}
 use Rattle.ultra_isa.specs.Step.{ProcessorState, fresh_core}
 use Rattle.ultra_model.specs.Trace.{pe_line}

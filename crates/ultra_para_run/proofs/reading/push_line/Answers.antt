@@ -1,6 +1,4 @@
-use Rattle.std.proofs.Common.{sym, ◌∙◌, rules, tests}
-use Rattle.std.proofs.lemmas.Iterator.Consumers.{YieldsList-at, YieldsList-from_filter}
-use Rattle.std.proofs.lemmas.Iterator.Splits.{YieldsList-from_slice_split}
+use Rattle.std.proofs.{Common.{sym, ◌∙◌, rules, tests}, lemmas.Iterator.{Consumers.{YieldsList-at, YieldsList-from_filter}, Splits.YieldsList-from_slice_split}}
 use Rattle.ultra_asm.specs.Words.{is_separator}
 use Rattle.ultra_para_run.proofs.Lines.{bad_word, word_more, number_more, words_all, numbers_all}
 use Rattle.ultra_para_run.proofs.reading.push_line.Goals as goal

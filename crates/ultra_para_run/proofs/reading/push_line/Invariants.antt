@@ -1,6 +1,5 @@
 use Rattle.std.proofs.Common.{◌≡◌, ◌++◌, length, map, take, true, is_some}
-use Rattle.std.specs.List.{list_all}
-use Rattle.std.specs.Str.Parse.{digits_value}
+use Rattle.std.specs.{List.list_all, Str.Parse.digits_value}
 use Rattle.ultra_para_run.specs.ScheduleText.{pe_of, schedule_words}
 use Rattle.ultra_para_run.proofs.reading.push_line.Given as goal
 

@@ -1,6 +1,5 @@
 use Rattle.std.proofs.Common.{Ok, sym, ◌∙◌, ap, eqb, rules, tests}
-use Rattle.std.proofs.lemmas.Iterator.Consumers.{YieldsList-at, YieldsList-from_enumerate}
-use Rattle.std.proofs.lemmas.Iterator.Splits.{YieldsList-from_slice_split}
+use Rattle.std.proofs.lemmas.Iterator.{Consumers.{YieldsList-at, YieldsList-from_enumerate}, Splits.YieldsList-from_slice_split}
 use Rattle.ultra_para_run.proofs.Lines.{bad_line, line_more, pes_more, text_is, text_below}
 use Rattle.ultra_para_run.proofs.reading.read_schedule.Goals as goal
 

@@ -2,14 +2,9 @@ use Rattle.std.proofs.Common.{◌≡◌, [], ◌∷◌, ◌++◌, ◌+◌, ◌-�
 use Rattle.std.proofs.lemmas.List.{length_push}
 use Rattle.ultra_io.specs.TextBuffer.{Writes}
 use Rattle.ultra_model.specs.Machine.{size}
-use Rattle.ultra_para.specs.Report.{have_all_stopped}
-use Rattle.ultra_para.specs.ParaState.{ParaState}
-use Rattle.ultra_para_run.specs.ParaText.{after_steps, steps_text, unless_only_end}
-use Rattle.ultra_para_run.specs.SeededSchedule.{drawn_from}
-use Rattle.ultra_para_run.specs.Steps.{HasMade}
-use Rattle.ultra_para_run.proofs.Draw.{few_elements}
-use Rattle.ultra_para_run.proofs.Drawn.{AreDrawn, drawn_stopped, drawn_all, drawn_next}
-use Rattle.ultra_para_run.proofs.Made.{has_room, step_written, steps_missing}
+use Rattle.ultra_para.specs.{Report.have_all_stopped, ParaState.ParaState}
+use Rattle.ultra_para_run.specs.{ParaText.{after_steps, steps_text, unless_only_end}, SeededSchedule.drawn_from, Steps.HasMade}
+use Rattle.ultra_para_run.proofs.{Draw.few_elements, Drawn.{AreDrawn, drawn_stopped, drawn_all, drawn_next}, Made.{has_room, step_written, steps_missing}}
 use Rattle.ultra_para_run.proofs.running.put_drawn.Goals as goal
 
 pub returns-then-have_all_stopped-clause-writes : goal.returns-then-have_all_stopped-clause-writes

@@ -1,7 +1,6 @@
 use Rattle.std.proofs.Common.{◌≡◌, ◌-◌, List, ℕ, length}
 use Rattle.ultra_io.specs.TextBuffer.{Writes}
-use Rattle.ultra_para_run.specs.ParaText.{steps_text, unless_only_end}
-use Rattle.ultra_para_run.specs.Steps.{HasMade}
+use Rattle.ultra_para_run.specs.{ParaText.{steps_text, unless_only_end}, Steps.HasMade}
 use Rattle.ultra_para_run.proofs.Drawn.{AreDrawn}
 use Rattle.ultra_para_run.proofs.running.put_drawn.Given as goal
 

@@ -1,10 +1,8 @@
 use Rattle.std.proofs.Common.{[], ◌∷◌, ◌++◌, ◌+◌, ◌-◌, ◌^◌, ◌<◌, length, take, drop, get_or, sym, subst, arith}
-use Rattle.std.proofs.lemmas.List.{take_more, length-take-le}
-use Rattle.std.proofs.lemmas.List.Elements.{All-get_or}
+use Rattle.std.proofs.lemmas.List.{take_more, length-take-le, Elements.All-get_or}
 use Rattle.ultra_io.specs.TextBuffer.{Writes}
 use Rattle.ultra_model.specs.Machine.{size}
-use Rattle.ultra_para_run.specs.ParaText.{steps_text, unless_only_end}
-use Rattle.ultra_para_run.specs.Steps.{HasMade}
+use Rattle.ultra_para_run.specs.{ParaText.{steps_text, unless_only_end}, Steps.HasMade}
 use Rattle.ultra_para_run.proofs.Made.{has_room, cut_behind, step_written, steps_missing}
 use Rattle.ultra_para_run.proofs.running.put_steps.Goals as goal
 

@@ -1,7 +1,6 @@
 use Rattle.std.proofs.Common.{take}
 use Rattle.ultra_io.specs.TextBuffer.{Writes}
-use Rattle.ultra_para_run.specs.ParaText.{steps_text, unless_only_end}
-use Rattle.ultra_para_run.specs.Steps.{HasMade}
+use Rattle.ultra_para_run.specs.{ParaText.{steps_text, unless_only_end}, Steps.HasMade}
 use Rattle.ultra_para_run.proofs.running.put_steps.Given as goal
 
 abbrev pub invariant-loop-pe : goal.invariant-loop-pe

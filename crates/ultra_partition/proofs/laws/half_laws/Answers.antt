@@ -1,4 +1,4 @@
-use Rattle.ultra_partition.proofs.{Halves.can_make_law, Halves.half_law, Happenings.merged_law}
+use Rattle.ultra_partition.proofs.{Halves.{can_make_law, half_law}, Happenings.merged_law}
 use Rattle.ultra_partition.proofs.laws.half_laws.Goals as goal
 
 pub returns : goal.returns

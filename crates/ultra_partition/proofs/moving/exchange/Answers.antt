@@ -1,5 +1,5 @@
 use Rattle.std.proofs.Common.{arith, below_more}
-use Rattle.ultra_partition.proofs.{Moved.both_moved, Moved.gone_until, Units.few_units}
+use Rattle.ultra_partition.proofs.{Moved.{both_moved, gone_until}, Units.few_units}
 use Rattle.ultra_partition.proofs.moving.exchange.Goals as goal
 
 pub loop-unit-preserved : goal.loop-unit-preserved

@@ -1,11 +1,7 @@
 use Rattle.std.proofs.Common.{arith, ◌≡◌, ◌≢◌, ◌<◌, length, ◌∙◌, ap, sym, false}
-use Rattle.std.specs.Prelude.{Some}
-use Rattle.std.specs.List.{position}
-use Rattle.std.proofs.lemmas.List.Edits.{length-remove}
-use Rattle.std.proofs.lemmas.List.Quantifiers.{all_pairs_remove, position-Some}
-use Rattle.ultra_pni.specs.declared.OpenCell.{OpenCell}
-use Rattle.ultra_pni.specs.Interface.{Interface, is_awaited, is_pending}
-use Rattle.ultra_pni.specs.Ring.{no_request}
+use Rattle.std.specs.{Prelude.Some, List.position}
+use Rattle.std.proofs.lemmas.List.{Edits.length-remove, Quantifiers.{all_pairs_remove, position-Some}}
+use Rattle.ultra_pni.specs.{declared.OpenCell.OpenCell, Interface.{Interface, is_awaited, is_pending}, Ring.no_request}
 use Rattle.ultra_pni.proofs.Latest.{is_of, has_place, latest-remove, stands_before, target_at}
 use Rattle.ultra_pni.proofs.Pni.deliver.Goals as goal
 

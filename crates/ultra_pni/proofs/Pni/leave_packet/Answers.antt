@@ -1,5 +1,4 @@
-use Rattle.std.proofs.Common.{arith}
-use Rattle.std.proofs.lemmas.List.{length-drop}
+use Rattle.std.proofs.{Common.arith, lemmas.List.length-drop}
 use Rattle.ultra_pni.specs.Interface.{Interface}
 use Rattle.ultra_pni.proofs.Latest.{latest-leave}
 use Rattle.ultra_pni.proofs.Pni.leave_packet.Goals as goal

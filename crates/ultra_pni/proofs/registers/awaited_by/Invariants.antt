@@ -1,6 +1,5 @@
 use Rattle.std.proofs.Common.{◌≡◌, ℕ, take}
-use Rattle.ultra_pni.specs.Interface.{is_awaited}
-use Rattle.ultra_pni.specs.Registers.{has_register}
+use Rattle.ultra_pni.specs.{Interface.is_awaited, Registers.has_register}
 use Rattle.ultra_pni.proofs.registers.awaited_by.Given as goal
 
 abbrev pub invariant-loop-open : goal.invariant-loop-open

@@ -1,7 +1,5 @@
-use Rattle.std.proofs.Common.{◌-◌, arith}
-use Rattle.std.proofs.Common.{◌≤◌}
-use Rattle.ultra_route.proofs.Bits.{low_bit}
-use Rattle.ultra_route.proofs.Table.{turn}
+use Rattle.std.proofs.Common.{◌-◌, arith, ◌≤◌}
+use Rattle.ultra_route.proofs.{Bits.low_bit, Table.turn}
 use Rattle.ultra_route.proofs.Net.request_port.Goals as goal
 
 pub returns-clause-there : goal.returns-clause-there

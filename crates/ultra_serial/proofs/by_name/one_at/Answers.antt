@@ -1,5 +1,4 @@
-use Rattle.std.proofs.Common.{arith}
-use Rattle.std.proofs.lemmas.Grind.{common_steps}
+use Rattle.std.proofs.{Common.arith, lemmas.Grind.common_steps}
 use Rattle.ultra_serial.proofs.by_name.one_at.Goals as goal
 
 pub returns-then-place-eq0 : goal.returns-then-place-eq0

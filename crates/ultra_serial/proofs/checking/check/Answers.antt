@@ -1,11 +1,6 @@
-use Rattle.std.proofs.Common.{subst, ap, ◌∙◌}
-use Rattle.std.proofs.lemmas.Result.{err_from_is_err_and}
-use Rattle.ultra_serial.specs.declared.checking.BreachKind.TheVariants.{WrongCell}
-use Rattle.ultra_serial_law.specs.Log.{log_of}
-use Rattle.ultra_serial_law.specs.Legal.{Cells, given}
-use Rattle.ultra_serial.specs.DenseCells.{dense_cells}
-use Rattle.ultra_serial.specs.Breach.{cells_past, ExplainsCheckFault}
-use Rattle.ultra_serial.specs.Examined.{AreExplained, IsFine, IsWrongAt}
+use Rattle.std.proofs.{Common.{subst, ap, ◌∙◌}, lemmas.Result.err_from_is_err_and}
+use Rattle.ultra_serial.specs.{declared.checking.BreachKind.TheVariants.WrongCell, DenseCells.dense_cells, Breach.{cells_past, ExplainsCheckFault}, Examined.{AreExplained, IsFine, IsWrongAt}}
+use Rattle.ultra_serial_law.specs.{Log.log_of, Legal.{Cells, given}}
 use Rattle.ultra_serial.proofs.Explaining.{breach_explained, fine_everywhere, wrong_cell_found, legal_found}
 use Rattle.ultra_serial.proofs.checking.check.Goals as goal
 

@@ -1,7 +1,6 @@
 use Rattle.std.proofs.lemmas.Result.{err_from_is_err_and}
-use Rattle.ultra_serial.specs.declared.checking.BreachKind.TheVariants.{Missing}
+use Rattle.ultra_serial.specs.{declared.checking.BreachKind.TheVariants.Missing, DenseCells.dense_cells}
 use Rattle.ultra_serial_law.specs.Log.{log_of}
-use Rattle.ultra_serial.specs.DenseCells.{dense_cells}
 use Rattle.ultra_serial.proofs.Explaining.{breach_explained, first_missing_fault}
 use Rattle.ultra_serial.proofs.checking.examine.Goals as goal
 

@@ -1,12 +1,9 @@
 use Rattle.std.proofs.Common.{refl, get_or, arith, rules, subst, ap, sym, ◌∙◌, ⊎_elim}
 use Rattle.std.specs.Prelude.{slice_get}
-use Rattle.std.proofs.lemmas.Bool.{cases_eq}
-use Rattle.std.proofs.lemmas.Option.{slice_get-get_or, get_or_from_slice_get, slice_get_within}
-use Rattle.ultra_serial.specs.RecordsByName.{entries_named}
+use Rattle.std.proofs.lemmas.{Bool.cases_eq, Option.{slice_get-get_or, get_or_from_slice_get, slice_get_within}}
+use Rattle.ultra_serial.specs.{RecordsByName.entries_named, Examined.IsListed}
 use Rattle.ultra_serial_law.specs.declared.records.LoggedAnswer.{LoggedAnswer}
-use Rattle.ultra_serial.specs.Examined.{IsListed}
-use Rattle.ultra_serial.proofs.RecordsByName.{listed, not_listed}
-use Rattle.ultra_serial.proofs.Searching.{some_answer}
+use Rattle.ultra_serial.proofs.{RecordsByName.{listed, not_listed}, Searching.some_answer}
 use Rattle.ultra_serial.proofs.checking.first_missing.Goals as goal
 
 pub returns-then-not-is_listed-clause-some : goal.returns-then-not-is_listed-clause-some

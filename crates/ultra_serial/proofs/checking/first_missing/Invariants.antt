@@ -1,8 +1,7 @@
 use Rattle.std.proofs.Common.{◌≡◌, ◌<◌, ℕ, Some}
 use Rattle.std.specs.Prelude.{slice_get}
-use Rattle.ultra_serial.specs.RecordsByName.{entries_named}
+use Rattle.ultra_serial.specs.{RecordsByName.entries_named, Examined.IsListed}
 use Rattle.ultra_serial_law.specs.declared.records.LoggedAnswer.{LoggedAnswer}
-use Rattle.ultra_serial.specs.Examined.{IsListed}
 use Rattle.ultra_serial.proofs.checking.first_missing.Given as goal
 
 abbrev pub invariant-loop-index : goal.invariant-loop-index

@@ -1,7 +1,5 @@
-use Rattle.std.proofs.Common.{ℕ, arith}
-use Rattle.std.proofs.lemmas.Option.{slice_get_within}
-use Rattle.ultra_serial.specs.DenseCells.{dense_cells}
-use Rattle.ultra_serial.specs.Examined.{IsFine}
+use Rattle.std.proofs.{Common.{ℕ, arith}, lemmas.Option.slice_get_within}
+use Rattle.ultra_serial.specs.{DenseCells.dense_cells, Examined.IsFine}
 use Rattle.ultra_serial.proofs.Searching.{none_below, more_below}
 use Rattle.ultra_serial.proofs.checking.lowest_given.Goals as goal
 

@@ -1,7 +1,6 @@
 use Rattle.std.proofs.Common.{◌≡◌, ◌<◌, ℕ, Some}
 use Rattle.std.specs.Prelude.{slice_get}
-use Rattle.ultra_serial.specs.DenseCells.{dense_cells}
-use Rattle.ultra_serial.specs.Examined.{IsFine, IsWrongAt}
+use Rattle.ultra_serial.specs.{DenseCells.dense_cells, Examined.{IsFine, IsWrongAt}}
 use Rattle.ultra_serial.proofs.checking.lowest_given.Given as goal
 
 abbrev pub invariant-loop-cell : goal.invariant-loop-cell

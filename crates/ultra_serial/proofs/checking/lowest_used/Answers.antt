@@ -1,8 +1,6 @@
-use Rattle.std.proofs.Common.{arith}
-use Rattle.std.proofs.lemmas.Option.{slice_get_within}
+use Rattle.std.proofs.{Common.arith, lemmas.Option.slice_get_within}
 use Rattle.ultra_serial_law.specs.declared.records.Entry.{Entry}
-use Rattle.ultra_serial.specs.DenseCells.{dense_cells}
-use Rattle.ultra_serial.specs.Examined.{IsFine}
+use Rattle.ultra_serial.specs.{DenseCells.dense_cells, Examined.IsFine}
 use Rattle.ultra_serial.proofs.Searching.{none_below, more_below}
 use Rattle.ultra_serial.proofs.checking.lowest_used.Goals as goal
 

@@ -1,8 +1,7 @@
 use Rattle.std.proofs.Common.{◌≡◌, ◌<◌, ℕ, Some}
 use Rattle.std.specs.Prelude.{slice_get}
 use Rattle.ultra_serial_law.specs.declared.records.Entry.{Entry}
-use Rattle.ultra_serial.specs.DenseCells.{dense_cells}
-use Rattle.ultra_serial.specs.Examined.{IsFine, IsWrongAt}
+use Rattle.ultra_serial.specs.{DenseCells.dense_cells, Examined.{IsFine, IsWrongAt}}
 use Rattle.ultra_serial.proofs.checking.lowest_used.Given as goal
 
 abbrev pub invariant-loop-entry : goal.invariant-loop-entry

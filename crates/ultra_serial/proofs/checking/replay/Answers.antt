@@ -1,18 +1,11 @@
 use Rattle.std.specs.Prelude.{slice_get}
 use Rattle.std.proofs.Common.{◌<◌, length, take, get_or, arith, refl, ap, sym, ◌∙◌, subst, Some, None}
-use Rattle.std.proofs.lemmas.List.{take_more, take_all}
-use Rattle.std.proofs.lemmas.Option.{slice_get-get_or}
-use Rattle.std.proofs.lemmas.Result.{err_from_is_err_and}
+use Rattle.std.proofs.lemmas.{List.{take_more, take_all}, Option.slice_get-get_or, Result.err_from_is_err_and}
 use Rattle.ultra_msg.specs.Act.{act}
-use Rattle.ultra_serial_law.specs.Log.{Log, empty_log}
-use Rattle.ultra_serial_law.specs.Legal.{Cells, with_cell}
-use Rattle.ultra_serial.specs.DenseCells.{dense_cells}
-use Rattle.ultra_serial.specs.Breach.{cells_past}
-use Rattle.ultra_serial.specs.Examined.{Finds, IsFirstAfter, AreExplained}
+use Rattle.ultra_serial_law.specs.{Log.{Log, empty_log}, Legal.{Cells, with_cell}}
+use Rattle.ultra_serial.specs.{DenseCells.dense_cells, Breach.cells_past, Examined.{Finds, IsFirstAfter, AreExplained}, RecordsByName.Holds}
 use Rattle.ultra_serial.proofs.Explaining.{past_more, explained_none, explained_more, first_none, first_more, first_fault, breach_explained}
-use Rattle.ultra_serial.specs.RecordsByName.{Holds}
-use Rattle.ultra_serial.proofs.RecordsByName.{all_above, one_reached}
-use Rattle.ultra_serial.proofs.Searching.{some_entry}
+use Rattle.ultra_serial.proofs.{RecordsByName.{all_above, one_reached}, Searching.some_entry}
 use Rattle.ultra_serial.proofs.checking.replay.Goals as goal
 
 abbrev no_log : Log

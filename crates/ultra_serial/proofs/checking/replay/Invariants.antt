@@ -1,9 +1,6 @@
 use Rattle.std.proofs.Common.{◌≡◌, ◌≤◌, [], take}
 use Rattle.ultra_serial_law.specs.Log.{Log}
-use Rattle.ultra_serial.specs.DenseCells.{dense_cells}
-use Rattle.ultra_serial.specs.Breach.{cells_past}
-use Rattle.ultra_serial.specs.Examined.{IsFirstAfter, AreExplained}
-use Rattle.ultra_serial.specs.RecordsByName.{Holds}
+use Rattle.ultra_serial.specs.{DenseCells.dense_cells, Breach.cells_past, Examined.{IsFirstAfter, AreExplained}, RecordsByName.Holds}
 use Rattle.ultra_serial.proofs.checking.replay.Given as goal
 
 abbrev pub invariant-loop-index : goal.invariant-loop-index

@@ -1,10 +1,7 @@
-use Rattle.std.proofs.Common.{arith, take, get_or, sym, subst}
-use Rattle.std.proofs.lemmas.List.{take_more, take_all}
+use Rattle.std.proofs.{Common.{arith, take, get_or, sym, subst}, lemmas.List.{take_more, take_all}}
 use Rattle.ultra_serial_law.specs.Log.{log_of}
-use Rattle.ultra_serial.specs.ByName.{list_named}
-use Rattle.ultra_serial.specs.LatestIssue.{IsLatestIssueOf}
-use Rattle.ultra_serial.proofs.Searching.{some_entry}
-use Rattle.ultra_serial.proofs.LaterIssues.{kept_issues}
+use Rattle.ultra_serial.specs.{ByName.list_named, LatestIssue.IsLatestIssueOf}
+use Rattle.ultra_serial.proofs.{Searching.some_entry, LaterIssues.kept_issues}
 use Rattle.ultra_serial.proofs.latest.latest_issued_entry.Goals as goal
 
 pub loop-entry-preserved : goal.loop-entry-preserved

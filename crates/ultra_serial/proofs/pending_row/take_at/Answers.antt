@@ -1,5 +1,4 @@
-use Rattle.std.proofs.Common.{arith}
-use Rattle.std.proofs.lemmas.Grind.{common_steps}
+use Rattle.std.proofs.{Common.arith, lemmas.Grind.common_steps}
 use Rattle.ultra_serial.proofs.pending_row.take_at.Goals as goal
 
 pub returns-then-index-len-clause-rest : goal.returns-then-index-len-clause-rest

@@ -1,12 +1,7 @@
-use Rattle.std.proofs.Common.{arith, take, get_or, subst, sym}
-use Rattle.std.proofs.lemmas.List.{take_all, take_more}
-use Rattle.std.proofs.lemmas.Option.{slice_get-get_or}
-use Rattle.std.proofs.lemmas.Result.{IfOk-from_err}
-use Rattle.ultra_serial.specs.ByName.{list_named}
+use Rattle.std.proofs.{Common.{arith, take, get_or, subst, sym}, lemmas.{List.{take_all, take_more}, Option.slice_get-get_or, Result.IfOk-from_err}}
+use Rattle.ultra_serial.specs.{ByName.list_named, RecordsByName.AreAnswersByName}
 use Rattle.ultra_serial_law.specs.declared.records.LoggedAnswer.{LoggedAnswer}
-use Rattle.ultra_serial.specs.RecordsByName.{AreAnswersByName}
-use Rattle.ultra_serial.proofs.RecordsByName.{none_by_name, more_by_name}
-use Rattle.ultra_serial.proofs.Searching.{some_answer}
+use Rattle.ultra_serial.proofs.{RecordsByName.{none_by_name, more_by_name}, Searching.some_answer}
 use Rattle.ultra_serial.proofs.records_by_name.answers_by_name.Goals as goal
 
 pub loop-index-init : goal.loop-index-init

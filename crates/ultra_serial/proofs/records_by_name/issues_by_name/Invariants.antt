@@ -1,6 +1,5 @@
 use Rattle.std.proofs.Common.{take}
-use Rattle.ultra_serial.specs.ByName.{list_named}
-use Rattle.ultra_serial.specs.RecordsByName.{AreIssuesByName}
+use Rattle.ultra_serial.specs.{ByName.list_named, RecordsByName.AreIssuesByName}
 use Rattle.ultra_serial.proofs.records_by_name.issues_by_name.Given as goal
 
 abbrev pub invariant-loop-index : goal.invariant-loop-index

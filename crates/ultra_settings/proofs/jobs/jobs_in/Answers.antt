@@ -1,9 +1,8 @@
 use Rattle.std.proofs.Common.{◌≡◌, sym, subst, arith, List, Option, option_map}
 use Rattle.std.specs.Prelude.{IfOk}
 use Rattle.ultra_settings.specs.JobsText.{Paths, all_paths}
-use Rattle.ultra_settings.proofs.Files.{listed, none_listed, too_many_listed}
+use Rattle.ultra_settings.proofs.{Files.{listed, none_listed, too_many_listed}, jobs.jobs_in.Goals.{in_default-via-then-array-lt1, in_default-via-else-array-lt1+else-this-lt257}}
 use Rattle.ultra_settings.proofs.jobs.jobs_in.Goals as goal
-use Rattle.ultra_settings.proofs.jobs.jobs_in.Goals.{in_default-via-then-array-lt1, in_default-via-else-array-lt1+else-this-lt257}
 
 pub returns-in-1-to-256 : goal.returns-in-1-to-256
 returns-in-1-to-256 c =

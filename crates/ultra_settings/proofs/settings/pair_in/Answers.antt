@@ -1,5 +1,4 @@
-use Rattle.std.proofs.Common.{arith}
-use Rattle.std.proofs.lemmas.Grind.{common_steps}
+use Rattle.std.proofs.{Common.arith, lemmas.Grind.common_steps}
 use Rattle.ultra_settings.proofs.settings.pair_in.Goals as goal
 
 pub returns-in_err-as_integer : goal.returns-in_err-as_integer

@@ -1,5 +1,4 @@
-use Rattle.std.proofs.Common.{arith}
-use Rattle.std.proofs.lemmas.Grind.{common_steps}
+use Rattle.std.proofs.{Common.arith, lemmas.Grind.common_steps}
 use Rattle.ultra_settings.proofs.settings.pairs_in.Goals as goal
 
 pub loop-value-init : goal.loop-value-init

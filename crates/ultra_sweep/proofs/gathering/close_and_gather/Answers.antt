@@ -1,7 +1,6 @@
 use Rattle.ultra_sweep.specs.Gather.{NamesEachOnce}
-use Rattle.ultra_sweep.proofs.Whole.{only_memory, closed}
+use Rattle.ultra_sweep.proofs.{Whole.{only_memory, closed}, gathering.close_and_gather.Goals.After-gather}
 use Rattle.ultra_sweep.proofs.gathering.close_and_gather.Goals as goal
-use Rattle.ultra_sweep.proofs.gathering.close_and_gather.Goals.{After-gather}
 
 -- each job is named once
 once : (c : After-gather) → NamesEachOnce c.args.count c.args.results.items

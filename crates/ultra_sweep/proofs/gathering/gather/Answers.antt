@@ -1,9 +1,7 @@
 use Rattle.std.proofs.Common.{◌≡◌, ◌∙◌, ap, subst, length, vec_len}
 use Rattle.std.specs.Prelude.{None, IfOk}
-use Rattle.std.proofs.lemmas.List.{length-replicate}
-use Rattle.std.proofs.lemmas.Result.{IfOk-weaker}
-use Rattle.ultra_sweep.specs.Job.{texts_of}
-use Rattle.ultra_sweep.specs.Gather.{AreGathered}
+use Rattle.std.proofs.lemmas.{List.length-replicate, Result.IfOk-weaker}
+use Rattle.ultra_sweep.specs.{Job.texts_of, Gather.AreGathered}
 use Rattle.ultra_sweep.proofs.Filling.{given_texts}
 use Rattle.ultra_sweep.proofs.gathering.gather.Goals as goal
 

@@ -1,6 +1,5 @@
 use Rattle.std.proofs.Common.{◌≡◌, ◌∙◌, [], ◌∷◌, ◌++◌, sym, ap, subst, append_assoc, length, vec_len}
-use Rattle.std.proofs.lemmas.Result.{err_from_is_err_and}
-use Rattle.std.proofs.lemmas.List.{length-set, nil_from_length}
+use Rattle.std.proofs.lemmas.{Result.err_from_is_err_and, List.{length-set, nil_from_length}}
 use Rattle.ultra_sweep.specs.Places.{IsPut}
 use Rattle.ultra_sweep.proofs.Filling.{IsFilled, filled-more, refused, missing, gathered, given_back, all_seen}
 use Rattle.ultra_sweep.proofs.gathering.gather_into.Goals as goal

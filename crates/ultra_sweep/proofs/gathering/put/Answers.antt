@@ -1,6 +1,5 @@
-use Rattle.std.proofs.Common.{◌∙◌, refl, sym, arith, get_or}
+use Rattle.std.proofs.{Common.{◌∙◌, refl, sym, arith, get_or}, lemmas.List.get_or_default}
 use Rattle.std.specs.Prelude.{None}
-use Rattle.std.proofs.lemmas.List.{get_or_default}
 use Rattle.ultra_sweep.proofs.Filling.{is-empty}
 use Rattle.ultra_sweep.proofs.gathering.put.Goals as goal
 

@@ -1,7 +1,6 @@
 use Rattle.std.proofs.Common.{append-nil}
 use Rattle.ultra_msg.proofs.Writing.{writes_then, writes_failed}
-use Rattle.ultra_sweep.specs.Report.{text_as, texts_from}
-use Rattle.ultra_sweep.specs.declared.reporting.JobForm.TheVariants.{Plain}
+use Rattle.ultra_sweep.specs.{Report.{text_as, texts_from}, declared.reporting.JobForm.TheVariants.Plain}
 use Rattle.ultra_sweep.proofs.reporting.write_job_table.Goals as goal
 
 pub returns-in_err-write_pieces : goal.returns-in_err-write_pieces

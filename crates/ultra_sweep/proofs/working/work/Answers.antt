@@ -2,11 +2,8 @@ use Rattle.std.proofs.Common.{◌≡◌, zero, suc, ◌≤◌, [], ◌∷◌, �
 use Rattle.std.specs.Prelude.{All}
 use Rattle.std.proofs.lemmas.List.Elements.{All-append}
 use Rattle.ultra_board.specs.View.{times, times_below}
-use Rattle.ultra_sweep.specs.declared.job.JobResult.{JobResult}
-use Rattle.ultra_sweep.specs.Job.{job_numbers, IsResultAmong}
-use Rattle.ultra_sweep.specs.Work.{HasDoneAll}
-use Rattle.ultra_sweep.proofs.Numbers.{one_more, job_numbers-push}
-use Rattle.ultra_sweep.proofs.Doing.{done_more, among, is_below, is_new, has_room}
+use Rattle.ultra_sweep.specs.{declared.job.JobResult.JobResult, Job.{job_numbers, IsResultAmong}, Work.HasDoneAll}
+use Rattle.ultra_sweep.proofs.{Numbers.{one_more, job_numbers-push}, Doing.{done_more, among, is_below, is_new, has_room}}
 use Rattle.ultra_sweep.proofs.working.work.Goals as goal
 
 pub push_reserved-requires : goal.push_reserved-requires

@@ -1,8 +1,7 @@
 use Rattle.std.proofs.Common.{◌≡◌, ◌≤◌, ◌-◌, ℕ, length}
 use Rattle.std.specs.Prelude.{All, vec_capacity}
 use Rattle.ultra_board.specs.View.{times, times_below}
-use Rattle.ultra_sweep.specs.Job.{job_numbers, IsResultAmong}
-use Rattle.ultra_sweep.specs.Work.{HasDoneAll}
+use Rattle.ultra_sweep.specs.{Job.{job_numbers, IsResultAmong}, Work.HasDoneAll}
 use Rattle.ultra_sweep.proofs.working.work.Given as goal
 
 abbrev pub invariant-loop-number : goal.invariant-loop-number

@@ -1,12 +1,10 @@
 use Rattle.std.proofs.Common.{◌≡◌, ◌+◌, ℕ, List, ◌∷◌, [], ◌++◌, ap, subst, length, arith, length-append}
 use Rattle.std.specs.Prelude.{All, IfOk, Result}
-use Rattle.std.proofs.lemmas.Result.{IfOk-weaker}
-use Rattle.std.proofs.lemmas.List.Elements.{All-head, All-rest}
+use Rattle.std.proofs.lemmas.{Result.IfOk-weaker, List.Elements.{All-head, All-rest}}
 use Rattle.ultra_board.specs.Seat.{BoardState}
 use Rattle.ultra_args.specs.declared.sweep_output.SweepOutput.{SweepOutput}
 use Rattle.ultra_sweep.specs.declared.job.Job.{Job}
-use Rattle.ultra_sweep_command.specs.declared.seat_results.SeatResults.{SeatResults}
-use Rattle.ultra_sweep_command.specs.SeatResults.{AreSeatResults, AreWholeResults, HasTakenPart}
+use Rattle.ultra_sweep_command.specs.{declared.seat_results.SeatResults.SeatResults, SeatResults.{AreSeatResults, AreWholeResults, HasTakenPart}}
 use Rattle.ultra_sweep_command.proofs.sweep_threads.join_all.Goals as goal
 use Rattle.ultra_sweep_command.proofs.sweep_threads.join_all.Goals.{in-Ok, in-Err}
 

@@ -1,5 +1,5 @@
 use Rattle.std.proofs.Common.{arith}
-use Rattle.ultra_topology.proofs.{Set.fewer_behind, Visits.all_visited, Visits.begun, Visits.first_is, Visits.stepped}
+use Rattle.ultra_topology.proofs.{Set.fewer_behind, Visits.{all_visited, begun, first_is, stepped}}
 use Rattle.ultra_topology.proofs.pass.visit_first_word.Goals as goal
 
 pub loop-units-init : goal.loop-units-init

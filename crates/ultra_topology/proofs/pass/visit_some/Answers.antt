@@ -1,6 +1,5 @@
 use Rattle.std.proofs.Common.{◌+◌, arith, refl}
-use Rattle.ultra_topology.proofs.Common.{nat_tests, has_unit, comes_to}
-use Rattle.ultra_topology.proofs.Visits.{passed_to}
+use Rattle.ultra_topology.proofs.{Common.{nat_tests, has_unit, comes_to}, Visits.passed_to}
 use Rattle.ultra_topology.specs.Visits.{after_units}
 use Rattle.ultra_topology.proofs.pass.visit_some.Goals as goal
 

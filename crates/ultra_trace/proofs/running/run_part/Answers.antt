@@ -1,5 +1,4 @@
-use Rattle.ultra_trace_alone.specs.Part.{part_of}
-use Rattle.ultra_trace_alone.specs.RunText.{run_text}
+use Rattle.ultra_trace_alone.specs.{Part.part_of, RunText.run_text}
 use Rattle.ultra_trace.proofs.running.run_part.Goals as goal
 
 pub returns-else-workers-eq1-clause-ok : goal.returns-else-workers-eq1-clause-ok

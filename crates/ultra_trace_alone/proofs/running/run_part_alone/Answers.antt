@@ -1,5 +1,4 @@
-use Rattle.ultra_trace_alone.specs.Part.{part_of}
-use Rattle.ultra_trace_alone.specs.RunText.{run_text}
+use Rattle.ultra_trace_alone.specs.{Part.part_of, RunText.run_text}
 use Rattle.ultra_trace_alone.proofs.running.run_part_alone.Goals as goal
 
 pub returns-clause-ok : goal.returns-clause-ok

@@ -1,8 +1,6 @@
 use Rattle.std.proofs.Common.{◌≡◌, ℕ, ◌%◌, ◌<◌, List, [], ◌∷◌, ◌++◌, true, nat_lt, length, arith, rules}
 use Rattle.std.specs.List.{list_all}
-use Rattle.std.proofs.lemmas.Grind.{common_steps}
-use Rattle.std.proofs.lemmas.Bool.Decides.{nat_tests}
-use Rattle.std.proofs.lemmas.Result.{IfOk-from_err}
+use Rattle.std.proofs.lemmas.{Grind.common_steps, Bool.Decides.nat_tests, Result.IfOk-from_err}
 use Rattle.ultra_model.specs.Machine.{Settings}
 use Rattle.ultra_block.specs.Cut.{is_partition}
 use Rattle.ultra_topology.specs.Numbers.{unit_count}

@@ -1,7 +1,5 @@
-use Rattle.std.proofs.lemmas.Grind.{common_steps}
-use Rattle.std.proofs.Common.{arith, ap}
-use Rattle.ultra_model.specs.Machine.{Element}
-use Rattle.ultra_model.specs.Trace.{pe_lines}
+use Rattle.std.proofs.{lemmas.Grind.common_steps, Common.{arith, ap}}
+use Rattle.ultra_model.specs.{Machine.Element, Trace.pe_lines}
 use Rattle.ultra_trace_text.proofs.Numbered.{writes_number}
 use Rattle.ultra_trace_text.proofs.ending.put_processors.Goals as goal
 

@@ -2,9 +2,8 @@ use Rattle.std.proofs.Common.{◌≡◌, arith}
 use Rattle.std.specs.Prelude.{slice_index}
 use Rattle.ultra_model.specs.Trace.{registers_text, register_text}
 use Rattle.ultra_io.proofs.Writing.{◌then◌}
-use Rattle.ultra_trace_text.proofs.Numbered.{by_number_more}
+use Rattle.ultra_trace_text.proofs.{Numbered.by_number_more, ending.put_registers.Goals.{in-Some, in_default}}
 use Rattle.ultra_trace_text.proofs.ending.put_registers.Goals as goal
-use Rattle.ultra_trace_text.proofs.ending.put_registers.Goals.{in-Some, in_default}
 
 pub loop-index-preserved : goal.loop-index-preserved
 loop-index-preserved g c =

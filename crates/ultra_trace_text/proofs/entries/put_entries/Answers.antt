@@ -1,6 +1,4 @@
-use Rattle.std.proofs.lemmas.Grind.{common_steps}
-use Rattle.std.proofs.Common.{arith}
-use Rattle.std.proofs.lemmas.List.{take_all}
+use Rattle.std.proofs.{lemmas.{Grind.common_steps, List.take_all}, Common.arith}
 use Rattle.ultra_io.proofs.Writing.{◌then◌, ◌moved◌}
 use Rattle.ultra_trace_text.proofs.Listed.{more_listed}
 use Rattle.ultra_trace_text.proofs.entries.put_entries.Goals as goal

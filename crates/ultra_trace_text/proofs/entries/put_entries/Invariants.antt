@@ -1,6 +1,5 @@
 use Rattle.std.proofs.Common.{◌<◌, take}
-use Rattle.ultra_io.specs.TextBuffer.{GoesOn}
-use Rattle.ultra_io.specs.declared.filled_bytes.TheConstants.{BUFFER_BYTES}
+use Rattle.ultra_io.specs.{TextBuffer.GoesOn, declared.filled_bytes.TheConstants.BUFFER_BYTES}
 use Rattle.ultra_model.specs.Text.{comma_separated}
 use Rattle.ultra_trace_text.proofs.entries.put_entries.Given as goal
 

@@ -1,6 +1,4 @@
-use Rattle.std.proofs.lemmas.Grind.{common_steps}
-use Rattle.std.proofs.Common.{arith, codes, refl}
-use Rattle.std.proofs.lemmas.Bool.Decides.{nat_tests}
+use Rattle.std.proofs.{lemmas.{Grind.common_steps, Bool.Decides.nat_tests}, Common.{arith, codes, refl}}
 use Rattle.ultra_model.specs.Text.{message_text}
 use Rattle.ultra_io.proofs.Writing.{◌then◌}
 use Rattle.ultra_trace_text.proofs.Listed.{line_is}

@@ -1,9 +1,7 @@
 use Rattle.std.proofs.Common.{◌+◌, ◌^◌, arith, ap, sym, ◌∙◌}
 use Rattle.ultra_model.specs.Machine.{Element}
 use Rattle.ultra_topology.specs.Numbers.{element_number}
-use Rattle.ultra_trace_text.proofs.Empty.{no_pni_line_of}
-use Rattle.ultra_trace_text.proofs.Walked.{next_within, walked}
-use Rattle.ultra_trace_text.proofs.Yielded.{none_written, one_more}
+use Rattle.ultra_trace_text.proofs.{Empty.no_pni_line_of, Walked.{next_within, walked}, Yielded.{none_written, one_more}}
 use Rattle.ultra_trace_text.proofs.state.put_interfaces.Goals as goal
 
 pub element-requires : goal.element-requires

@@ -1,5 +1,4 @@
-use Rattle.std.proofs.Common.{arith}
-use Rattle.std.proofs.lemmas.Grind.{common_steps}
+use Rattle.std.proofs.{Common.arith, lemmas.Grind.common_steps}
 use Rattle.ultra_trace_text.proofs.state.put_port.Goals as goal
 
 pub returns-in-Reply : goal.returns-in-Reply

@@ -1,8 +1,6 @@
 use Rattle.std.proofs.Common.{◌+◌, ◌^◌, arith, sym, ◌∙◌}
 use Rattle.ultra_topology.specs.Numbers.{module_number}
-use Rattle.ultra_trace_text.proofs.Empty.{no_out_line_of}
-use Rattle.ultra_trace_text.proofs.Walked.{next_within, walked}
-use Rattle.ultra_trace_text.proofs.Yielded.{none_written, one_more}
+use Rattle.ultra_trace_text.proofs.{Empty.no_out_line_of, Walked.{next_within, walked}, Yielded.{none_written, one_more}}
 use Rattle.ultra_trace_text.proofs.state.put_replies_to_leave.Goals as goal
 
 pub memory_module-requires : goal.memory_module-requires

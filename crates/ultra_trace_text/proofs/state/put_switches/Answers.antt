@@ -3,10 +3,7 @@ use Rattle.std.proofs.Common.{◌+◌, ◌-◌, ◌^◌, arith, sym, ◌∙◌}
 use Rattle.ultra_io.proofs.Writing.{◌then◌}
 use Rattle.ultra_topology.specs.Numbers.{switch_count}
 use Rattle.ultra_trace_text.specs.Ports.{port_line}
-use Rattle.ultra_trace_text.proofs.Empty.{no_port_lines}
-use Rattle.ultra_trace_text.proofs.Rows.{by_rows, lines_at}
-use Rattle.ultra_trace_text.proofs.Walked.{next_within, walked}
-use Rattle.ultra_trace_text.proofs.Yielded.{none_written, one_more}
+use Rattle.ultra_trace_text.proofs.{Empty.no_port_lines, Rows.{by_rows, lines_at}, Walked.{next_within, walked}, Yielded.{none_written, one_more}}
 use Rattle.ultra_trace_text.proofs.state.put_switches.Goals as goal
 
 pub place_of-stage-requires : goal.place_of-stage-requires

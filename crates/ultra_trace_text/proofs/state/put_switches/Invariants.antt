@@ -2,8 +2,7 @@ use Rattle.std.proofs.Common.{◌-◌, ◌^◌}
 use Rattle.ultra_topology.specs.Numbers.{switch_count}
 use Rattle.ultra_holders.specs.Holders.{holders_left, numbers_in}
 use Rattle.ultra_trace_text.specs.Ports.{port_line}
-use Rattle.ultra_trace_text.proofs.Rows.{lines_at}
-use Rattle.ultra_trace_text.proofs.Yielded.{AreWritten}
+use Rattle.ultra_trace_text.proofs.{Rows.lines_at, Yielded.AreWritten}
 use Rattle.ultra_trace_text.proofs.state.put_switches.Given as goal
 
 abbrev pub invariant-loop-switch : goal.invariant-loop-switch

@@ -1,10 +1,7 @@
 use Rattle.std.proofs.Common.{◌≡◌, ◌+◌, ◌-◌, ◌<◌, ◌≤◌, subst, arith}
-use Rattle.ultra_tree.specs.Counts.{leaf_count, HasRightCounts}
-use Rattle.ultra_tree.specs.Places.{depth_at}
-use Rattle.ultra_tree.proofs.Places.{right_parts}
-use Rattle.ultra_tree.proofs.Depths.{depth_in_old, depth_in_new}
+use Rattle.ultra_tree.specs.{Counts.{leaf_count, HasRightCounts}, Places.depth_at}
+use Rattle.ultra_tree.proofs.{Places.right_parts, Depths.{depth_in_old, depth_in_new}, heights.depth_of.Goals.{then-place-old_leaves, else-place-old_leaves}}
 use Rattle.ultra_tree.proofs.heights.depth_of.Goals as goal
-use Rattle.ultra_tree.proofs.heights.depth_of.Goals.{then-place-old_leaves, else-place-old_leaves}
 
 pub loop-node-preserved : goal.loop-node-preserved
 loop-node-preserved g c =

@@ -1,6 +1,5 @@
 use Rattle.std.proofs.Common.{◌≡◌, ◌+◌, ◌<◌, ◌≤◌}
-use Rattle.ultra_tree.specs.Counts.{leaf_count, HasRightCounts}
-use Rattle.ultra_tree.specs.Places.{depth_at}
+use Rattle.ultra_tree.specs.{Counts.{leaf_count, HasRightCounts}, Places.depth_at}
 use Rattle.ultra_tree.proofs.heights.depth_of.Given as goal
 
 -- the leaf is that of the place in what is left, which many pairs hold

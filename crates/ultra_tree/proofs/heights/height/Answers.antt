@@ -1,6 +1,5 @@
 use Rattle.std.proofs.Common.{◌≡◌, arith, ap, ◌∙◌}
-use Rattle.ultra_tree.specs.Counts.{leaf_count}
-use Rattle.ultra_tree.specs.Places.{depth_of_first}
+use Rattle.ultra_tree.specs.{Counts.leaf_count, Places.depth_of_first}
 use Rattle.ultra_tree.proofs.Depths.{greatest_depth}
 use Rattle.ultra_tree.proofs.heights.height.Goals as goal
 

@@ -1,11 +1,8 @@
 use Rattle.std.proofs.Common.{◌≡◌, ℕ, ◌-◌, ◌<◌, ◌≤◌, subst, arith, sym, ◌∙◌, ◌++◌}
 use Rattle.std.specs.Prelude.{slice_get}
-use Rattle.ultra_tree.specs.Counts.{leaf_count, HasRightCounts}
-use Rattle.ultra_tree.specs.Places.{leaves_in}
-use Rattle.ultra_tree.proofs.Listed.{get_left, get_right, length_leaves}
-use Rattle.ultra_tree.proofs.Places.{right_parts}
+use Rattle.ultra_tree.specs.{Counts.{leaf_count, HasRightCounts}, Places.leaves_in}
+use Rattle.ultra_tree.proofs.{Listed.{get_left, get_right, length_leaves}, Places.right_parts, listing.leaf_at.Goals.{then-old_first, else-old_first}}
 use Rattle.ultra_tree.proofs.listing.leaf_at.Goals as goal
-use Rattle.ultra_tree.proofs.listing.leaf_at.Goals.{then-old_first, else-old_first}
 
 pub loop-node-preserved-then-place-of_first : goal.loop-node-preserved-then-place-of_first
 loop-node-preserved-then-place-of_first g c =

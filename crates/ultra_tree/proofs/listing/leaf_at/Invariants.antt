@@ -1,6 +1,5 @@
 use Rattle.std.proofs.Common.{◌≡◌, ◌<◌, slice_get}
-use Rattle.ultra_tree.specs.Counts.{leaf_count, HasRightCounts}
-use Rattle.ultra_tree.specs.Places.{leaves_in}
+use Rattle.ultra_tree.specs.{Counts.{leaf_count, HasRightCounts}, Places.leaves_in}
 use Rattle.ultra_tree.proofs.listing.leaf_at.Given as goal
 
 -- the leaf is that of the place in what is left

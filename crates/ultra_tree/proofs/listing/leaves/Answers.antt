@@ -1,7 +1,5 @@
 use Rattle.std.proofs.Common.{◌≡◌, map, arith, ap, sym, ◌∙◌, add-one}
-use Rattle.ultra_tree.specs.Counts.{leaf_count}
-use Rattle.ultra_tree.specs.Places.{leaves_in}
-use Rattle.ultra_tree.specs.Seen.{at_cell}
+use Rattle.ultra_tree.specs.{Counts.leaf_count, Places.leaves_in, Seen.at_cell}
 use Rattle.ultra_tree.proofs.Listed.{length_leaves, leaves_seen, take_next, take_whole}
 use Rattle.ultra_tree.proofs.listing.leaves.Goals as goal
 

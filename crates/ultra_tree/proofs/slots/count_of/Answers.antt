@@ -1,8 +1,7 @@
 use Rattle.std.proofs.lemmas.Grind.{common_steps}
 use Rattle.std.proofs.Common.{◌*◌, ◌<◌, length, sym, ◌∙◌, arith}
-use Rattle.ultra_tree.proofs.Rows.{one_more, none_more}
+use Rattle.ultra_tree.proofs.{Rows.{one_more, none_more}, slots.count_of.Goals.{then-not-is_free, else-not-is_free}}
 use Rattle.ultra_tree.proofs.slots.count_of.Goals as goal
-use Rattle.ultra_tree.proofs.slots.count_of.Goals.{then-not-is_free, else-not-is_free}
 
 pub loop-place-preserved : goal.loop-place-preserved
 loop-place-preserved g c =

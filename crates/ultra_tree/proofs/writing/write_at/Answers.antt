@@ -1,10 +1,7 @@
 use Rattle.std.proofs.Common.{◌+◌, ◌<◌, ◌≤◌, None, subst, arith}
 use Rattle.ultra_msg.proofs.Writing.{so_far_none, so_far_more, so_far_failed, so_far_last}
-use Rattle.ultra_tree.specs.Counts.{leaf_count, HasRightCounts}
-use Rattle.ultra_tree.specs.Places.{piece}
-use Rattle.ultra_tree.specs.Text.{opening}
-use Rattle.ultra_tree.proofs.Places.{right_parts}
-use Rattle.ultra_tree.proofs.Texts.{text_in_old, text_in_new}
+use Rattle.ultra_tree.specs.{Counts.{leaf_count, HasRightCounts}, Places.piece, Text.opening}
+use Rattle.ultra_tree.proofs.{Places.right_parts, Texts.{text_in_old, text_in_new}}
 use Rattle.ultra_tree.proofs.writing.write_at.Goals as goal
 
 pub returns-in_err-write_opening-in-Pair : goal.returns-in_err-write_opening-in-Pair

@@ -1,8 +1,7 @@
 use Rattle.std.proofs.Common.{◌+◌, ◌<◌, ◌≤◌, None}
 use Rattle.ultra_msg.specs.declared.sink.SinkFault.{SinkFault}
 use Rattle.ultra_msg.proofs.Writing.{IsSoFar}
-use Rattle.ultra_tree.specs.Counts.{leaf_count, HasRightCounts}
-use Rattle.ultra_tree.specs.Places.{piece}
+use Rattle.ultra_tree.specs.{Counts.{leaf_count, HasRightCounts}, Places.piece}
 use Rattle.ultra_tree.proofs.writing.write_at.Given as goal
 
 -- what is left to write is the text of the place in what is left

@@ -1,8 +1,7 @@
 use Rattle.std.proofs.Common.{◌≡◌, ℕ, List, [], ◌+◌, ◌-◌, ◌<◌, None, Ok, subst, arith}
 use Rattle.ultra_msg.specs.declared.sink.SinkFault.{SinkFault}
 use Rattle.ultra_msg.proofs.Writing.{IsSoFar, so_far_none, so_far_more, so_far_failed, so_far_last, writes_nothing}
-use Rattle.ultra_tree.specs.Counts.{leaf_count}
-use Rattle.ultra_tree.specs.Places.{piece, pieces}
+use Rattle.ultra_tree.specs.{Counts.leaf_count, Places.{piece, pieces}}
 use Rattle.ultra_tree.proofs.Texts.{pieces_next, whole_text}
 use Rattle.ultra_tree.proofs.writing.write_tree.Goals as goal
 

@@ -1,8 +1,7 @@
 use Rattle.std.proofs.Common.{ℕ, ◌-◌, List, None}
 use Rattle.ultra_msg.specs.declared.sink.SinkFault.{SinkFault}
 use Rattle.ultra_msg.proofs.Writing.{IsSoFar}
-use Rattle.ultra_tree.specs.Counts.{leaf_count}
-use Rattle.ultra_tree.specs.Places.{piece, pieces}
+use Rattle.ultra_tree.specs.{Counts.leaf_count, Places.{piece, pieces}}
 use Rattle.ultra_tree.proofs.writing.write_tree.Given as goal
 
 abbrev pub invariant-loop-place : goal.invariant-loop-place

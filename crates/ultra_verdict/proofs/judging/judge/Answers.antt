@@ -1,14 +1,10 @@
-use Rattle.std.proofs.Common.{◌≡◌, sym, ap, subst, ◌∙◌}
-use Rattle.std.proofs.lemmas.Result.{IfOk-weaker}
+use Rattle.std.proofs.{Common.{◌≡◌, sym, ap, subst, ◌∙◌}, lemmas.Result.IfOk-weaker}
 use Rattle.ultra_model.specs.Trace.{cell_value, cycle_count, last_state}
 use Rattle.ultra_model.proofs.Ranged.{in_range}
-use Rattle.ultra_serial_law.specs.Log.{log_of}
-use Rattle.ultra_serial_law.specs.Legal.{given}
-use Rattle.ultra_serial_law.specs.SerialList.{history}
+use Rattle.ultra_serial_law.specs.{Log.log_of, Legal.given, SerialList.history}
 use Rattle.ultra_serial.specs.HasRun.{HasRun}
 use Rattle.ultra_verdict.specs.Judged.{AreAnswersIssued, IsVerdict, IsVerdictFor}
-use Rattle.ultra_verdict.proofs.Runs.{answers_issued, log_to_end, cells_at_end}
-use Rattle.ultra_verdict.proofs.Verdicts.{same_verdict}
+use Rattle.ultra_verdict.proofs.{Runs.{answers_issued, log_to_end, cells_at_end}, Verdicts.same_verdict}
 use Rattle.ultra_verdict.proofs.judging.judge.Goals as goal
 
 pub verdict-requires : goal.verdict-requires

@@ -1,8 +1,7 @@
 use Rattle.std.proofs.Common.{◌≡◌, sym, ap, ◌^◌, ◌∙◌, arith}
 use Rattle.ultra_model.specs.Trace.{cell_value}
-use Rattle.ultra_verdict.proofs.CellsGiven.{one_held, zero_held, all_held, beyond_memory, word_in}
+use Rattle.ultra_verdict.proofs.{CellsGiven.{one_held, zero_held, all_held, beyond_memory, word_in}, last_cells.last_cells.Goals.{then-word-ne0+in_ok-push, else-word-ne0}}
 use Rattle.ultra_verdict.proofs.last_cells.last_cells.Goals as goal
-use Rattle.ultra_verdict.proofs.last_cells.last_cells.Goals.{then-word-ne0+in_ok-push, else-word-ne0}
 
 pub loop-cell-preserved : goal.loop-cell-preserved
 loop-cell-preserved c =

@@ -1,7 +1,6 @@
 use Rattle.std.proofs.Common.{◌≡◌, ℕ, ◌<◌, Some}
 use Rattle.std.specs.Prelude.{slice_get}
-use Rattle.ultra_serial_law.specs.declared.records.LoggedAnswer.{LoggedAnswer}
-use Rattle.ultra_serial_law.specs.Legal.{IsAnswerTo}
+use Rattle.ultra_serial_law.specs.{declared.records.LoggedAnswer.LoggedAnswer, Legal.IsAnswerTo}
 use Rattle.ultra_verdict.proofs.searching.answer_cycle.Given as goal
 
 abbrev pub invariant-loop-answer : goal.invariant-loop-answer

@@ -1,7 +1,6 @@
 use Rattle.std.proofs.Common.{arith, ◌∙◌}
-use Rattle.ultra_verdict.proofs.CellsGiven.{given_here, given_elsewhere}
+use Rattle.ultra_verdict.proofs.{CellsGiven.{given_here, given_elsewhere}, searching.given_value.Goals.{then-address-cell, else-address-cell}}
 use Rattle.ultra_verdict.proofs.searching.given_value.Goals as goal
-use Rattle.ultra_verdict.proofs.searching.given_value.Goals.{then-address-cell, else-address-cell}
 
 pub loop-address-preserved : goal.loop-address-preserved
 loop-address-preserved c =

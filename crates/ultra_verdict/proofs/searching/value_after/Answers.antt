@@ -1,8 +1,7 @@
 use Rattle.std.proofs.Common.{arith, ap, ◌∙◌}
 use Rattle.ultra_serial_law.specs.Legal.{given}
-use Rattle.ultra_verdict.proofs.CellsGiven.{acted_here, acted_elsewhere}
+use Rattle.ultra_verdict.proofs.{CellsGiven.{acted_here, acted_elsewhere}, searching.value_after.Goals.{then-entry-cell, else-entry-cell}}
 use Rattle.ultra_verdict.proofs.searching.value_after.Goals as goal
-use Rattle.ultra_verdict.proofs.searching.value_after.Goals.{then-entry-cell, else-entry-cell}
 
 pub loop-entry-preserved : goal.loop-entry-preserved
 loop-entry-preserved c =

@@ -1,15 +1,9 @@
 use Rattle.std.proofs.Common.{◌≡◌, ℕ, ◌≤◌, true, false, length, get_or, option_map, Option, Some, None, sym, ◌∙◌, ap, subst, rules, arith}
-use Rattle.std.specs.List.{find}
-use Rattle.std.specs.List.Sorted.{IsPartitionPoint}
+use Rattle.std.specs.List.{find, Sorted.IsPartitionPoint}
 use Rattle.std.proofs.lemmas.List.Sorted.{IsPartitionPoint-from_clause}
-use Rattle.ultra_asm.specs.declared.labels.Definition.{Definition}
-use Rattle.ultra_asm.specs.declared.labels.Label.{Label}
-use Rattle.ultra_asm.specs.Label.{has_name, pc_at, AreInOrder}
-use Rattle.ultra_asm.specs.Found.{definition_in}
-use Rattle.ultra_asm.proofs.InOrder.{is_below, parted, hit, miss}
-use Rattle.ultra_asm.proofs.Collecting.{on_line}
+use Rattle.ultra_asm.specs.{declared.labels.{Definition.Definition, Label.Label}, Label.{has_name, pc_at, AreInOrder}, Found.definition_in}
+use Rattle.ultra_asm.proofs.{InOrder.{is_below, parted, hit, miss}, Collecting.on_line, labels.Labels.definition.Goals.After-get}
 use Rattle.ultra_asm.proofs.labels.Labels.definition.Goals as goal
-use Rattle.ultra_asm.proofs.labels.Labels.definition.Goals.{After-get}
 
 -- what is found in the list is what the labels say
 module _ (c : After-get) where

@@ -1,17 +1,7 @@
 use Rattle.std.proofs.Common.{◌≡◌, ℕ, ◌+◌, ◌≤◌, ◌∙◌, ap, sym, refl, inl, inr, eqb, true, false, List, [], ◌∷◌, ◌++◌, option_map, take, length, get_or, Some, None, arith, rules, tests}
-use Rattle.std.proofs.lemmas.Bool.{eqb-true}
-use Rattle.std.proofs.lemmas.List.{length-map, length_push}
-use Rattle.std.proofs.lemmas.List.Sorted.{answers_always}
-use Rattle.std.proofs.lemmas.Iterator.Consumers.{YieldsList-at, YieldsList-from_enumerate}
-use Rattle.std.proofs.lemmas.Iterator.Splits.{YieldsList-from_slice_split}
-use Rattle.ultra_asm.specs.declared.labels.Label.{Label}
-use Rattle.ultra_asm.specs.Words.{text_words}
-use Rattle.ultra_asm.specs.Label.{AreInOrder}
-use Rattle.ultra_asm.specs.Labels.{line_label, statement, instructions_on}
-use Rattle.ultra_asm.proofs.FirstWords.{label_few, count_few}
-use Rattle.ultra_asm.proofs.Turns.{Lent, texts, turn, end}
-use Rattle.ultra_asm.proofs.InstructionLines.{AreInstructionLines, lines_same, lines_push}
-use Rattle.ultra_asm.proofs.Collecting.{AreOfLines, line_unlabelled, line_labelled, in_order_found}
+use Rattle.std.proofs.lemmas.{Bool.eqb-true, List.{length-map, length_push, Sorted.answers_always}, Iterator.{Consumers.{YieldsList-at, YieldsList-from_enumerate}, Splits.YieldsList-from_slice_split}}
+use Rattle.ultra_asm.specs.{declared.labels.Label.Label, Words.text_words, Label.AreInOrder, Labels.{line_label, statement, instructions_on}}
+use Rattle.ultra_asm.proofs.{FirstWords.{label_few, count_few}, Turns.{Lent, texts, turn, end}, InstructionLines.{AreInstructionLines, lines_same, lines_push}, Collecting.{AreOfLines, line_unlabelled, line_labelled, in_order_found}}
 use Rattle.ultra_asm.proofs.labels.Labels.of.Goals as goal
 use Rattle.ultra_asm.proofs.labels.Labels.of.Goals.{After-sort_unstable_by_key, in-Some-line_label+in_ok-push, in_default, then-not-is_empty+then-len-lt-MOST_INSTRUCTIONS+in_ok-push-2, else-not-is_empty, else-not-is_empty-via-then-not-is_empty+else-len-lt-MOST_INSTRUCTIONS, else-not-is_empty-via-else-not-is_empty}
 

@@ -1,7 +1,6 @@
 use Rattle.std.proofs.Common.{length}
 use Rattle.ultra_asm.specs.Words.{text_words}
-use Rattle.ultra_asm.proofs.Collecting.{AreOfLines}
-use Rattle.ultra_asm.proofs.InstructionLines.{AreInstructionLines}
+use Rattle.ultra_asm.proofs.{Collecting.AreOfLines, InstructionLines.AreInstructionLines}
 use Rattle.ultra_asm.proofs.labels.Labels.of.Given as goal
 
 abbrev pub invariant-loop-line : goal.invariant-loop-line

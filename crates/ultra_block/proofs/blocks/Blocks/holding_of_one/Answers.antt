@@ -1,5 +1,4 @@
-use Rattle.std.proofs.Common.{arith}
-use Rattle.std.proofs.lemmas.Grind.{common_steps}
+use Rattle.std.proofs.{Common.arith, lemmas.Grind.common_steps}
 use Rattle.ultra_partition.proofs.Questions.{held_by_all}
 use Rattle.ultra_block.proofs.blocks.Blocks.holding_of_one.Goals as goal
 

@@ -1,6 +1,7 @@
-use Rattle.std.proofs.{Common.arith, Common.refl, lemmas.Grind.common_steps, lemmas.List.get_or_default}
+use Rattle.std.proofs.{Common.{arith, refl}, lemmas.{Grind.common_steps, List.get_or_default}}
 use Rattle.ultra_partition.specs.Moments.{machine_in}
-use Rattle.ultra_block.{proofs.Dealt.none_carried, proofs.Dealt.same_cut, proofs.Dealt.unit_carried, specs.State.MakeUp}
+use Rattle.ultra_block.proofs.Dealt.{none_carried, same_cut, unit_carried}
+use Rattle.ultra_block.specs.State.{MakeUp}
 use Rattle.ultra_block.proofs.blocks.Blocks.recut.Goals as goal
 
 pub loop-unit-init : goal.loop-unit-init

@@ -1,4 +1,4 @@
-use Rattle.std.proofs.{Common.arith, lemmas.List.get_or_default, lemmas.List.length-map, lemmas.List.length-take-le}
+use Rattle.std.proofs.{Common.arith, lemmas.List.{get_or_default, length-map, length-take-le}}
 use Rattle.ultra_block.proofs.blocks.Blocks.stops.Goals as goal
 
 pub add-requires : goal.add-requires

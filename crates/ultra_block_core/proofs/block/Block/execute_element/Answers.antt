@@ -1,6 +1,6 @@
-use Rattle.std.proofs.lemmas.Grind.{common_steps}
-use Rattle.std.proofs.Common.{Some, arith}
-use Rattle.ultra_block_core.proofs.{Common.get_or_default, Common.faulted_stops, Common.holds_as_before, Common.issued_holds, Common.issued_runs, Common.went_on, Known.element_kept, Known.same_facts}
+use Rattle.std.proofs.{lemmas.Grind.common_steps, Common.{Some, arith}}
+use Rattle.ultra_block_core.proofs.Common.{get_or_default, faulted_stops, holds_as_before, issued_holds, issued_runs, went_on}
+use Rattle.ultra_block_core.proofs.Known.{element_kept, same_facts}
 use Rattle.ultra_block_core.proofs.block.Block.execute_element.Goals as goal
 
 pub invariant_of-self-in-AtRest : goal.invariant_of-self-in-AtRest

@@ -1,5 +1,4 @@
-use Rattle.std.proofs.lemmas.Grind.{common_steps}
-use Rattle.std.proofs.Common.{None, refl, arith}
+use Rattle.std.proofs.{lemmas.Grind.common_steps, Common.{None, refl, arith}}
 use Rattle.ultra_block_core.proofs.Known.{element_kept, module_kept, switch_kept}
 use Rattle.ultra_block_core.proofs.block.Block.move_unit.Goals as goal
 

@@ -1,5 +1,4 @@
-use Rattle.std.proofs.lemmas.Grind.{common_steps}
-use Rattle.std.proofs.Common.{arith}
+use Rattle.std.proofs.{lemmas.Grind.common_steps, Common.arith}
 use Rattle.ultra_block_core.proofs.Known.{no_reply_held_past, no_replies_sent}
 use Rattle.ultra_block_core.proofs.block.Block.send_held_replies.Goals as goal
 

@@ -1,6 +1,5 @@
-use Rattle.std.proofs.lemmas.Grind.{common_steps}
-use Rattle.std.proofs.Common.{Some, arith}
-use Rattle.ultra_block_core.proofs.{Common.get_or_default, Common.nat_tests, Known.switch_kept, Noted.shorter}
+use Rattle.std.proofs.{lemmas.Grind.common_steps, Common.{Some, arith}}
+use Rattle.ultra_block_core.proofs.{Common.{get_or_default, nat_tests}, Known.switch_kept, Noted.shorter}
 use Rattle.ultra_block_core.proofs.block.Block.send_replies_of_switch.Goals as goal
 
 pub invariant_of-self-2 : goal.invariant_of-self-2

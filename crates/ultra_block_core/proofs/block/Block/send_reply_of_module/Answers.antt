@@ -1,5 +1,4 @@
-use Rattle.std.proofs.lemmas.Grind.{common_steps}
-use Rattle.std.proofs.Common.{Some, arith, rules}
+use Rattle.std.proofs.{lemmas.Grind.common_steps, Common.{Some, arith, rules}}
 use Rattle.ultra_topology.proofs.Readers.{module_leads}
 use Rattle.ultra_block_core.proofs.{Common.get_or_default, Known.module_kept}
 use Rattle.ultra_block_core.proofs.block.Block.send_reply_of_module.Goals as goal

@@ -1,7 +1,6 @@
-use Rattle.std.proofs.lemmas.Grind.{common_steps}
-use Rattle.std.proofs.Common.{Some, arith, rules}
+use Rattle.std.proofs.{lemmas.Grind.common_steps, Common.{Some, arith, rules}}
 use Rattle.ultra_topology.proofs.Readers.{element_leads}
-use Rattle.ultra_block_core.proofs.{Common.get_or_default, Common.nat_tests, Known.element_kept}
+use Rattle.ultra_block_core.proofs.{Common.{get_or_default, nat_tests}, Known.element_kept}
 use Rattle.ultra_block_core.proofs.block.Block.send_request_of_element.Goals as goal
 
 pub invariant_of-self-2 : goal.invariant_of-self-2

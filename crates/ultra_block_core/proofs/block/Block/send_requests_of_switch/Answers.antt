@@ -1,7 +1,7 @@
 use Rattle.std.proofs.lemmas.Grind.{common_steps}
 use Rattle.std.proofs.Common.{◌≡◌, Bool, false, ◌||◌, Option, Some, None, arith}
 use Rattle.std.specs.Prelude.{is_some}
-use Rattle.ultra_block_core.proofs.{Common.Ports, Common.get_or_default, Common.nat_tests, Known.same_facts, Known.switch_kept, Noted.shorter}
+use Rattle.ultra_block_core.proofs.{Common.{Ports, get_or_default, nat_tests}, Known.{same_facts, switch_kept}, Noted.shorter}
 use Rattle.ultra_block_core.proofs.block.Block.send_requests_of_switch.Goals as goal
 
 none_go : {X : Type 0} (out : Ports (Option X)) (goes : Bool) → goes ≡ is_some out.zero || is_some out.one → goes ≡ false → out ≡ record { zero = None; one = None }

@@ -1,5 +1,4 @@
-use Rattle.std.proofs.lemmas.Grind.{common_steps}
-use Rattle.std.proofs.Common.{arith}
+use Rattle.std.proofs.{lemmas.Grind.common_steps, Common.arith}
 use Rattle.ultra_block_core.proofs.Known.{no_request_held_past, no_requests_sent}
 use Rattle.ultra_block_core.proofs.block.Block.send_requests_sized.Goals as goal
 

@@ -1,6 +1,5 @@
-use Rattle.std.proofs.lemmas.Grind.{common_steps}
-use Rattle.std.proofs.Common.{Some, arith, length-append}
-use Rattle.ultra_block_core.proofs.{Common.get_or_default, Common.nat_tests, Known.switch_kept, Noted.none_left}
+use Rattle.std.proofs.{lemmas.Grind.common_steps, Common.{Some, arith, length-append}}
+use Rattle.ultra_block_core.proofs.{Common.{get_or_default, nat_tests}, Known.switch_kept, Noted.none_left}
 use Rattle.ultra_block_core.proofs.block.Block.take_replies_of_switch.Goals as goal
 
 pub take_into_switch-requires-clause-room : goal.take_into_switch-requires-clause-room

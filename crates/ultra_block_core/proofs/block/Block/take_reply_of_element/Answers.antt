@@ -1,6 +1,5 @@
-use Rattle.std.proofs.lemmas.Grind.{common_steps}
-use Rattle.std.proofs.Common.{Some, refl, arith}
-use Rattle.ultra_block_core.proofs.{Common.get_or_default, Known.element_kept, Known.same_facts}
+use Rattle.std.proofs.{lemmas.Grind.common_steps, Common.{Some, refl, arith}}
+use Rattle.ultra_block_core.proofs.{Common.get_or_default, Known.{element_kept, same_facts}}
 use Rattle.ultra_block_core.proofs.block.Block.take_reply_of_element.Goals as goal
 
 pub deliver-requires : goal.deliver-requires

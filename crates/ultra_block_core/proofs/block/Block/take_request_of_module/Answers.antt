@@ -1,5 +1,4 @@
-use Rattle.std.proofs.lemmas.Grind.{common_steps}
-use Rattle.std.proofs.Common.{Some, sym, ◌∙◌, arith}
+use Rattle.std.proofs.{lemmas.Grind.common_steps, Common.{Some, sym, ◌∙◌, arith}}
 use Rattle.ultra_block_core.proofs.{Common.get_or_default, Known.module_kept}
 use Rattle.ultra_block_core.proofs.block.Block.take_request_of_module.Goals as goal
 

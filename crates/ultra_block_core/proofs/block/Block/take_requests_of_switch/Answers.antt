@@ -1,5 +1,4 @@
-use Rattle.std.proofs.lemmas.Grind.{common_steps}
-use Rattle.std.proofs.Common.{Some, arith, ◌%◌, ◌==◌}
+use Rattle.std.proofs.{lemmas.Grind.common_steps, Common.{Some, arith, ◌%◌, ◌==◌}}
 use Rattle.ultra_block_core.proofs.{Common.get_or_default, Known.switch_kept, Noted.requests_came}
 use Rattle.ultra_block_core.proofs.block.Block.take_requests_of_switch.Goals as goal
 

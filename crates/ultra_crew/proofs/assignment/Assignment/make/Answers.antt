@@ -1,11 +1,9 @@
 use Rattle.std.proofs.Common.{◌≡◌, suc, List, [], ◌∷◌, ◌++◌, length, take, drop, ap, refl, sym, subst, ◌∙◌, arith, Vec, Global, All, map}
 use Rattle.std.proofs.lemmas.List.{take_at}
 use Rattle.ultra_isa.specs.declared.Instr.{Instr}
-use Rattle.ultra_block_core.specs.declared.half.Half.{Half}
-use Rattle.ultra_block_core.specs.declared.rooms.Rooms.{Rooms}
+use Rattle.ultra_block_core.specs.declared.{half.Half.Half, rooms.Rooms.Rooms}
 use Rattle.ultra_block_core.proofs.OwnProgram.{made_by_own}
-use Rattle.ultra_crew.specs.Tasks.{CanBeMade, task_after_own_half, task_after_half}
-use Rattle.ultra_crew.specs.declared.task.BlockTask.{BlockTask}
+use Rattle.ultra_crew.specs.{Tasks.{CanBeMade, task_after_own_half, task_after_half}, declared.task.BlockTask.BlockTask}
 use Rattle.ultra_crew.proofs.assignment.Assignment.make.Goals as goal
 
 -- tasks that were done through a slice of a team are the results of the team

@@ -1,5 +1,4 @@
-use Rattle.ultra_crew.specs.Tasks.{busy_workers}
-use Rattle.ultra_crew.specs.ExpectedResults.{expected_results_of}
+use Rattle.ultra_crew.specs.{Tasks.busy_workers, ExpectedResults.expected_results_of}
 use Rattle.ultra_crew.proofs.crew.Crew.cycles.Given as goal
 
 abbrev pub ghosts-cycles_together : goal.ghosts-cycles_together

@@ -1,9 +1,8 @@
 use Rattle.ultra_block_core.specs.declared.half.Half.TheVariants.{SendReplies, TakeReplies, Serve, SendRequests, TakeRequests, Execute}
 use Rattle.ultra_partition.proofs.Whole.{can_execute, can_serve, can_take_replies, can_take_requests, replies_left, requests_left}
 use Rattle.ultra_crew.proofs.Chain.{HaveServed, RepliesCame, RequestsCame, can_exchange, cycled, due, have_served, have_taken, have_waiting, passed_so, replies_came, requests_came, sent_so, served_so, stepped_so, taken_so, waiting_so}
-use Rattle.ultra_crew.proofs.worker_pool.WorkerPool.make_cycle.Given.{Over}
+use Rattle.ultra_crew.proofs.worker_pool.WorkerPool.make_cycle.{Given.Over, Goals.{After-with_exchanged-blocks, After-with_exchanged-blocks-2, In_ok-blocks, In_ok-blocks-2}}
 use Rattle.ultra_crew.proofs.worker_pool.WorkerPool.make_cycle.Goals as goal
-use Rattle.ultra_crew.proofs.worker_pool.WorkerPool.make_cycle.Goals.{After-with_exchanged-blocks, After-with_exchanged-blocks-2, In_ok-blocks, In_ok-blocks-2}
 
 came : (g : Over) (c : After-with_exchanged-blocks g) → RepliesCame c.requires.whole c.with_exchanged-blocks.result.items
 came g c = replies_came c.requires.whole c.note_rooms-rooms.result (rw c.as_slice.ensures.value at c.note_rooms-rooms.ensures) c.in_ok-blocks.ensures.blocks c.net-net.ensures c.with_exchanged-blocks.ensures

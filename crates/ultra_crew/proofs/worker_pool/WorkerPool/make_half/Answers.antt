@@ -1,5 +1,4 @@
-use Rattle.std.proofs.Common.{arith}
-use Rattle.std.proofs.lemmas.List.{length-map}
+use Rattle.std.proofs.{Common.arith, lemmas.List.length-map}
 use Rattle.ultra_crew.proofs.worker_pool.WorkerPool.make_half.Goals as goal
 
 pub make_half_of_teams-requires-clause-due : goal.make_half_of_teams-requires-clause-due

@@ -1,5 +1,4 @@
-use Rattle.std.proofs.Common.{◌∙◌, sym}
-use Rattle.std.proofs.lemmas.Result.{on_ok_weaker}
+use Rattle.std.proofs.{Common.{◌∙◌, sym}, lemmas.Result.on_ok_weaker}
 use Rattle.ultra_crew.proofs.Dealt.{teams_can, teams_made}
 use Rattle.ultra_crew.proofs.worker_pool.WorkerPool.make_half_of_teams.Goals as goal
 

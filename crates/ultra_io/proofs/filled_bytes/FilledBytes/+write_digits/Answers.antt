@@ -1,10 +1,8 @@
 use Rattle.std.proofs.Common.{◌/◌, arith}
 use Rattle.std.specs.Prelude.{decimal}
 use Rattle.ultra_io.specs.FilledBytes.{IsWritten}
-use Rattle.ultra_io.proofs.Digits.{decimal_more, two_more}
-use Rattle.ultra_io.proofs.WrittenBytes.{◌next◌}
+use Rattle.ultra_io.proofs.{Digits.{decimal_more, two_more}, WrittenBytes.◌next◌, filled_bytes.FilledBytes.+write_digits.Goals.{then-front-lt100, else-front-lt100}}
 use Rattle.ultra_io.proofs.filled_bytes.FilledBytes.+write_digits.Goals as goal
-use Rattle.ultra_io.proofs.filled_bytes.FilledBytes.+write_digits.Goals.{then-front-lt100, else-front-lt100}
 
 pub write_one_or_two-behind-requires-clause-room : goal.write_one_or_two-behind-requires-clause-room
 write_one_or_two-behind-requires-clause-room t c = omega (arith, two_more c.args.number c.if-number-lt100.false c.ranges.number.fits)

@@ -1,5 +1,4 @@
-use Rattle.std.proofs.Common.{◌≡◌, arith}
-use Rattle.std.proofs.lemmas.List.{take_all}
+use Rattle.std.proofs.{Common.{◌≡◌, arith}, lemmas.List.take_all}
 use Rattle.ultra_io.proofs.filled_bytes.FilledBytes.write.Goals as goal
 
 pub returns-clause-written : goal.returns-clause-written

@@ -1,5 +1,4 @@
-use Rattle.std.proofs.Common.{length, ap, arith}
-use Rattle.std.proofs.lemmas.Fmt.{decimal_digit}
+use Rattle.std.proofs.{Common.{length, ap, arith}, lemmas.Fmt.decimal_digit}
 use Rattle.ultra_io.proofs.Digits.{decimal_two}
 use Rattle.ultra_io.proofs.filled_bytes.FilledBytes.write_one_or_two.Goals as goal
 

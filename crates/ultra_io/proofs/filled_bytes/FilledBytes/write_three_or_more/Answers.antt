@@ -1,10 +1,8 @@
 use Rattle.std.proofs.Common.{◌/◌, arith}
 use Rattle.std.specs.Prelude.{decimal}
 use Rattle.ultra_io.specs.FilledBytes.{IsWritten}
-use Rattle.ultra_io.proofs.Digits.{decimal_more, two_more}
-use Rattle.ultra_io.proofs.WrittenBytes.{◌next◌}
+use Rattle.ultra_io.proofs.{Digits.{decimal_more, two_more}, WrittenBytes.◌next◌, filled_bytes.FilledBytes.write_three_or_more.Goals.{then-front-lt10000, else-front-lt10000}}
 use Rattle.ultra_io.proofs.filled_bytes.FilledBytes.write_three_or_more.Goals as goal
-use Rattle.ultra_io.proofs.filled_bytes.FilledBytes.write_three_or_more.Goals.{then-front-lt10000, else-front-lt10000}
 
 pub write_up_to_four-behind-requires-clause-room : goal.write_up_to_four-behind-requires-clause-room
 write_up_to_four-behind-requires-clause-room c = omega (arith, two_more c.args.number c.requires.three (omega arith))

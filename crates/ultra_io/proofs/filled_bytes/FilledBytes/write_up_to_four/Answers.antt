@@ -1,6 +1,5 @@
 use Rattle.std.proofs.Common.{arith}
-use Rattle.ultra_io.proofs.Digits.{decimal_more, two_more}
-use Rattle.ultra_io.proofs.WrittenBytes.{◌next◌}
+use Rattle.ultra_io.proofs.{Digits.{decimal_more, two_more}, WrittenBytes.◌next◌}
 use Rattle.ultra_io.proofs.filled_bytes.FilledBytes.write_up_to_four.Goals as goal
 
 pub write_one_or_two-behind-requires-clause-room : goal.write_one_or_two-behind-requires-clause-room

@@ -2,11 +2,8 @@ use Rattle.std.proofs.Common.{◌≡◌, ℕ, Bool, true, false, refl, ◌∙◌
 use Rattle.std.specs.Prelude.{Option, nat_lt}
 use Rattle.std.proofs.lemmas.Bool.{lt-ltb}
 use Rattle.ultra_msg.specs.declared.Request.{Request}
-use Rattle.ultra_pni.specs.declared.Issue.{Issue}
-use Rattle.ultra_pni.specs.declared.Issue.TheVariants.{Sent, CellOpen, Full}
-use Rattle.ultra_pni.specs.Interface.{Interface, is_refusal, issue_of}
-use Rattle.ultra_isa.specs.Instruction.{Site}
-use Rattle.ultra_isa.specs.Step.{Core, is_stall, refers_as, refers_where}
+use Rattle.ultra_pni.specs.{declared.Issue.{Issue, TheVariants.{Sent, CellOpen, Full}}, Interface.{Interface, is_refusal, issue_of}}
+use Rattle.ultra_isa.specs.{Instruction.Site, Step.{Core, is_stall, refers_as, refers_where}}
 use Rattle.ultra_isa.proofs.processor.Processor.effect_would_stall.Goals as goal
 
 -- a reference stalls where its request is refused

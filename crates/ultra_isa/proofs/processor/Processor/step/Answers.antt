@@ -1,5 +1,4 @@
-use Rattle.std.proofs.Common.{arith}
-use Rattle.std.proofs.lemmas.Grind.{common_steps}
+use Rattle.std.proofs.{Common.arith, lemmas.Grind.common_steps}
 use Rattle.ultra_isa.proofs.processor.Processor.step.Goals as goal
 
 pub returns-in-Running-clause-core : goal.returns-in-Running-clause-core

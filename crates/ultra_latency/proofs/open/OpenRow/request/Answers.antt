@@ -1,6 +1,5 @@
 use Rattle.std.proofs.Common.{◌≡◌, ◌∙◌, sym, refl}
-use Rattle.std.specs.Prelude.{Some, None}
-use Rattle.std.specs.List.{position}
+use Rattle.std.specs.{Prelude.{Some, None}, List.position}
 use Rattle.ultra_latency.proofs.Absent.{is_of, absent, found_at}
 use Rattle.ultra_latency.proofs.open.OpenRow.request.Goals as goal
 

@@ -1,10 +1,7 @@
 use Rattle.std.proofs.Common.{ℕ, List, [], ◌≡◌, ◌+◌, ◌++◌, ◌∙◌, refl, sym, ap, drop, subst, append_assoc, arith, rules}
 use Rattle.std.specs.Prelude.{option_to_list}
-use Rattle.ultra_latency.specs.declared.open.OpenRequest.{OpenRequest}
-use Rattle.ultra_latency.specs.Open.{rows_after, latencies_along, since, HavePlaces}
-use Rattle.ultra_latency.specs.Summary.{AreSummedUp}
-use Rattle.ultra_latency.proofs.Rows.{next_rows, next_places, next_shown}
-use Rattle.ultra_latency.proofs.Summaries.{same_summed_up}
+use Rattle.ultra_latency.specs.{declared.open.OpenRequest.OpenRequest, Open.{rows_after, latencies_along, since, HavePlaces}, Summary.AreSummedUp}
+use Rattle.ultra_latency.proofs.{Rows.{next_rows, next_places, next_shown}, Summaries.same_summed_up}
 use Rattle.ultra_latency.proofs.open.OpenTable.note_events.Goals as goal
 
 pub loop-event-init : goal.loop-event-init

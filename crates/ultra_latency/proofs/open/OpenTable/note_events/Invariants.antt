@@ -1,6 +1,5 @@
 use Rattle.std.proofs.Common.{ℕ, List, ◌≡◌, ◌+◌, ◌≤◌, ◌++◌, drop, vec_capacity}
-use Rattle.ultra_latency.specs.Open.{rows_after, latencies_along, HavePlaces}
-use Rattle.ultra_latency.specs.Summary.{AreSummedUp, AreSmall}
+use Rattle.ultra_latency.specs.{Open.{rows_after, latencies_along, HavePlaces}, Summary.{AreSummedUp, AreSmall}}
 use Rattle.ultra_latency.proofs.open.OpenTable.note_events.Given as goal
 
 abbrev pub invariant-loop-event : goal.invariant-loop-event

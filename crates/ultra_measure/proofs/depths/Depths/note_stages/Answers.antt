@@ -1,5 +1,4 @@
-use Rattle.std.proofs.Common.{arith}
-use Rattle.std.proofs.lemmas.Grind.{common_steps}
+use Rattle.std.proofs.{Common.arith, lemmas.Grind.common_steps}
 use Rattle.ultra_measure.proofs.depths.Depths.note_stages.Goals as goal
 
 pub loop-stage-init : goal.loop-stage-init

@@ -1,8 +1,6 @@
 use Rattle.std.proofs.Common.{ℕ, ◌≡◌, ◌+◌, ◌≤◌, ◌<◌, ◌-◌, ◌^◌, max, get_or, length}
-use Rattle.ultra_model.specs.Machine.{size}
-use Rattle.ultra_model.specs.Balance.{total}
-use Rattle.ultra_measure.specs.Held.{held_at, full_at}
-use Rattle.ultra_measure.specs.Window.{greatest}
+use Rattle.ultra_model.specs.{Machine.size, Balance.total}
+use Rattle.ultra_measure.specs.{Held.{held_at, full_at}, Window.greatest}
 use Rattle.ultra_measure.proofs.depths.Depths.note_stages.Given as goal
 
 abbrev pub invariant-loop-stage : goal.invariant-loop-stage

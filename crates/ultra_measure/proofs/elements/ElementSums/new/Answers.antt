@@ -1,9 +1,6 @@
 use Rattle.std.proofs.Common.{refl}
-use Rattle.ultra_model.specs.Machine.{size}
-use Rattle.ultra_model.specs.Phases.{after}
-use Rattle.ultra_model.specs.Balance.{total}
-use Rattle.ultra_measure.specs.Held.{running, stalled, opened, pending}
-use Rattle.ultra_measure.specs.Window.{greatest}
+use Rattle.ultra_model.specs.{Machine.size, Phases.after, Balance.total}
+use Rattle.ultra_measure.specs.{Held.{running, stalled, opened, pending}, Window.greatest}
 use Rattle.ultra_measure.proofs.Keeping.{nothing_summed, no_most}
 use Rattle.ultra_measure.proofs.elements.ElementSums.new.Goals as goal
 

@@ -1,10 +1,7 @@
 use Rattle.std.proofs.Common.{◌+◌, ◌/◌, ◌%◌, ◌≤◌, ◌∙◌, ap, arith}
-use Rattle.ultra_model.specs.Machine.{size}
-use Rattle.ultra_model.specs.Balance.{total}
-use Rattle.ultra_measure.specs.Held.{running, stalled, opened, pending}
-use Rattle.ultra_measure.specs.Window.{greatest}
-use Rattle.ultra_measure.proofs.Keeping.{sum_goes_on, most_goes_on}
-use Rattle.ultra_measure.proofs.Known.{are_sums, seen_after}
+use Rattle.ultra_model.specs.{Machine.size, Balance.total}
+use Rattle.ultra_measure.specs.{Held.{running, stalled, opened, pending}, Window.greatest}
+use Rattle.ultra_measure.proofs.{Keeping.{sum_goes_on, most_goes_on}, Known.{are_sums, seen_after}}
 use Rattle.ultra_measure.proofs.elements.ElementSums.note_cycle.Goals as goal
 
 pub returns : goal.returns

@@ -1,8 +1,6 @@
-use Rattle.std.proofs.Common.{◌^◌, ◌∙◌, arith}
-use Rattle.std.proofs.lemmas.Grind.{common_steps}
+use Rattle.std.proofs.{Common.{◌^◌, ◌∙◌, arith}, lemmas.Grind.common_steps}
 use Rattle.ultra_measure.specs.EventKinds.{is_issue, is_delivery, is_act, is_act_of, is_combination, is_combination_in}
-use Rattle.ultra_measure.proofs.Events.{goes_on, has_room}
-use Rattle.ultra_measure.proofs.Known.{none_answered, one_answered}
+use Rattle.ultra_measure.proofs.{Events.{goes_on, has_room}, Known.{none_answered, one_answered}}
 use Rattle.ultra_measure.proofs.event_sums.EventSums.add_events.Goals as goal
 
 pub add-requires : goal.add-requires

@@ -1,6 +1,5 @@
 use Rattle.std.proofs.Common.{◌^◌, take}
-use Rattle.ultra_measure.specs.Counts.{AreWithEvents}
-use Rattle.ultra_measure.specs.ElementStates.{AreAnswered}
+use Rattle.ultra_measure.specs.{Counts.AreWithEvents, ElementStates.AreAnswered}
 use Rattle.ultra_measure.proofs.event_sums.EventSums.add_events.Given as goal
 
 abbrev pub invariant-loop-event : goal.invariant-loop-event

@@ -1,8 +1,7 @@
 use Rattle.std.proofs.Common.{◌+◌, length, ap, arith}
 use Rattle.ultra_model.specs.Balance.{count}
 use Rattle.ultra_measure.specs.EventKinds.{is_issue, is_delivery, is_act, is_act_of, is_combination, is_combination_in}
-use Rattle.ultra_measure.proofs.Events.{count_small}
-use Rattle.ultra_measure.proofs.Keeping.{sum_goes_on}
+use Rattle.ultra_measure.proofs.{Events.count_small, Keeping.sum_goes_on}
 use Rattle.ultra_measure.proofs.event_sums.EventSums.note_cycle.Goals as goal
 
 pub add_events-answered-requires-clause-room : goal.add_events-answered-requires-clause-room

@@ -1,10 +1,8 @@
 use Rattle.std.proofs.Common.{refl}
-use Rattle.ultra_model.specs.Machine.{size}
-use Rattle.ultra_model.specs.Balance.{total}
+use Rattle.ultra_model.specs.{Machine.size, Balance.total}
 use Rattle.ultra_block.specs.Held.TheVariants.{Reply, Request, Record}
 use Rattle.ultra_measure.specs.Held.{waiting_in, waiting_out}
-use Rattle.ultra_measure.proofs.Keeping.{nothing_summed}
-use Rattle.ultra_measure.proofs.Waiting.{no_latencies}
+use Rattle.ultra_measure.proofs.{Keeping.nothing_summed, Waiting.no_latencies}
 use Rattle.ultra_measure.proofs.window.Window.new.Goals as goal
 
 pub returns-clause-kept : goal.returns-clause-kept

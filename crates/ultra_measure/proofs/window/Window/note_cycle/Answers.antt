@@ -1,7 +1,5 @@
-use Rattle.std.proofs.lemmas.Grind.{common_steps}
-use Rattle.std.proofs.Common.{◌+◌, length, ap, arith}
-use Rattle.ultra_model.specs.Machine.{Machine, size}
-use Rattle.ultra_model.specs.Balance.{total}
+use Rattle.std.proofs.{lemmas.Grind.common_steps, Common.{◌+◌, length, ap, arith}}
+use Rattle.ultra_model.specs.{Machine.{Machine, size}, Balance.total}
 use Rattle.ultra_measure.specs.Held.{waiting_in, waiting_out}
 use Rattle.ultra_measure.proofs.Keeping.{sum_goes_on}
 use Rattle.ultra_measure.proofs.window.Window.note_cycle.Goals as goal

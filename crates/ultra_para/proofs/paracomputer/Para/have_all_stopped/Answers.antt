@@ -1,9 +1,7 @@
-use Rattle.std.proofs.Common.{sym, ◌∙◌, ap}
+use Rattle.std.proofs.{Common.{sym, ◌∙◌, ap}, lemmas.List.Folds.list_all-map}
 use Rattle.std.specs.List.{list_all}
-use Rattle.std.proofs.lemmas.List.Folds.{list_all-map}
 use Rattle.ultra_isa.specs.Step.{ProcessorState, Core, has_stopped}
-use Rattle.ultra_para.specs.Report.{have_all_stopped}
-use Rattle.ultra_para.specs.ParaState.{ParaState}
+use Rattle.ultra_para.specs.{Report.have_all_stopped, ParaState.ParaState}
 use Rattle.ultra_para.proofs.paracomputer.Para.have_all_stopped.Goals as goal
 
 pub returns : goal.returns

@@ -2,9 +2,7 @@ use Rattle.std.proofs.Common.{◌≡◌, ◌<◌, ℕ, List, slice_set, sym, ◌
 use Rattle.std.specs.Vec.{with_items}
 use Rattle.std.proofs.lemmas.List.{with_items_is}
 use Rattle.ultra_model.specs.Machine.{size}
-use Rattle.ultra_para.specs.Para.{para_step}
-use Rattle.ultra_para.specs.ParaState.{ParaState, programmed}
-use Rattle.ultra_para.specs.Report.{step_report}
+use Rattle.ultra_para.specs.{Para.para_step, ParaState.{ParaState, programmed}, Report.step_report}
 use Rattle.ultra_para.proofs.Peopled.{stepped_is, report_is}
 use Rattle.ultra_para.proofs.paracomputer.Para.observed_step.Goals as goal
 

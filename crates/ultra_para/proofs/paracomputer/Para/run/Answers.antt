@@ -1,6 +1,5 @@
 use Rattle.std.proofs.Common.{◌∙◌, ap, sym, get_or}
-use Rattle.ultra_para.specs.Para.{Para, para_step}
-use Rattle.ultra_para.specs.ParaState.{ParaState}
+use Rattle.ultra_para.specs.{Para.{Para, para_step}, ParaState.ParaState}
 use Rattle.ultra_para.proofs.Schedules.{run-take}
 use Rattle.ultra_para.proofs.paracomputer.Para.run.Goals as goal
 

@@ -1,7 +1,6 @@
 use Rattle.std.proofs.Common.{◌≡◌, ℕ, ◌^◌, ◌<◌, false, sym, ap, ◌∙◌, eqb, inl, inr, arith, eq-eqb, w32}
 use Rattle.std.specs.Int.{bit_at, trailing_zeros}
-use Rattle.std.proofs.lemmas.Bool.{cases_eq, eqb-true, true≢false}
-use Rattle.std.proofs.lemmas.Nat.Bits.{bit_at-zero, bit_at-trailing_zeros}
+use Rattle.std.proofs.lemmas.{Bool.{cases_eq, eqb-true, true≢false}, Nat.Bits.{bit_at-zero, bit_at-trailing_zeros}}
 use Rattle.ultra_pni.specs.Registers.{has_register}
 use Rattle.ultra_pni.proofs.registers.RegisterSet.is_empty.Goals as goal
 

@@ -1,9 +1,6 @@
 use Rattle.std.proofs.Common.{◌≡◌, ◌≢◌, ℕ, Bool, true, false, refl, sym, ◌∙◌, inl, inr, arith}
-use Rattle.std.specs.Prelude.{◌||◌, ◌==◌}
-use Rattle.std.specs.Int.{w32}
-use Rattle.std.proofs.lemmas.Bool.{cases_eq}
-use Rattle.std.proofs.lemmas.Bool.Decides.{nat_tests}
-use Rattle.std.proofs.lemmas.Nat.Bits.{bit_at_set_same, bit_at_set_other}
+use Rattle.std.specs.{Prelude.{◌||◌, ◌==◌}, Int.w32}
+use Rattle.std.proofs.lemmas.{Bool.{cases_eq, Decides.nat_tests}, Nat.Bits.{bit_at_set_same, bit_at_set_other}}
 use Rattle.ultra_pni.specs.Registers.{has_register}
 use Rattle.ultra_pni.proofs.registers.RegisterSet.with_number.Goals as goal
 

@@ -1,6 +1,5 @@
 use Rattle.std.proofs.Common.{ℕ, ◌≡◌, ◌^◌, ◌≤◌, length, ap, ◌∙◌, arith}
-use Rattle.ultra_model.specs.Machine.{Settings, size}
-use Rattle.ultra_model.specs.Trace.{cycle_count}
+use Rattle.ultra_model.specs.{Machine.{Settings, size}, Trace.cycle_count}
 use Rattle.ultra_latency.proofs.Deliveries.{length_rows}
 use Rattle.ultra_requests.proofs.Tables.{end_is}
 use Rattle.ultra_requests.proofs.requests.RequestTextRunText.put_closing.Goals as goal

@@ -1,6 +1,5 @@
 use Rattle.std.proofs.Common.{ap, ◌∙◌}
-use Rattle.ultra_serial.specs.ByPair.{list_of}
-use Rattle.ultra_serial.specs.ByName.{one_at, list_or, place_of}
+use Rattle.ultra_serial.specs.{ByPair.list_of, ByName.{one_at, list_or, place_of}}
 use Rattle.ultra_serial.proofs.Places.{row_of_zeros}
 use Rattle.ultra_serial.proofs.by_name.ListsByName.add_row.Goals as goal
 

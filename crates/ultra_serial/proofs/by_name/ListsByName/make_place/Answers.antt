@@ -1,7 +1,5 @@
-use Rattle.std.proofs.Common.{◌<◌, arith, ap}
-use Rattle.std.proofs.lemmas.Option.{slice_get_read}
-use Rattle.ultra_serial.specs.ByPair.{list_of}
-use Rattle.ultra_serial.specs.ByName.{one_at, list_or}
+use Rattle.std.proofs.{Common.{◌<◌, arith, ap}, lemmas.Option.slice_get_read}
+use Rattle.ultra_serial.specs.{ByPair.list_of, ByName.{one_at, list_or}}
 use Rattle.ultra_serial.proofs.Places.{place_made}
 use Rattle.ultra_serial.proofs.by_name.ListsByName.make_place.Goals as goal
 

@@ -1,8 +1,6 @@
-use Rattle.std.proofs.Common.{arith, sym, ◌∙◌, ap}
-use Rattle.std.proofs.lemmas.Option.{slice_get_read, slice_get_past}
+use Rattle.std.proofs.{Common.{arith, sym, ◌∙◌, ap}, lemmas.Option.{slice_get_read, slice_get_past}}
 use Rattle.ultra_serial.specs.ByName.{place_in}
-use Rattle.ultra_serial.proofs.Places.{index_past}
-use Rattle.ultra_serial.proofs.by_name.ListsByName.place.Goals.{else-row-len-via-then-row-len+else-number-len, else-row-len-via-else-row-len}
+use Rattle.ultra_serial.proofs.{Places.index_past, by_name.ListsByName.place.Goals.{else-row-len-via-then-row-len+else-number-len, else-row-len-via-else-row-len}}
 use Rattle.ultra_serial.proofs.by_name.ListsByName.place.Goals as goal
 
 pub returns : goal.returns

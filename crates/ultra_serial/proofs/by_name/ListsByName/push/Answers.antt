@@ -1,7 +1,5 @@
-use Rattle.std.proofs.Common.{◌≡◌, ℕ, subst, ap, ◌∙◌}
-use Rattle.std.proofs.lemmas.Result.{on_ok_weaker}
-use Rattle.ultra_serial.specs.ByPair.{is_pair, list_of, lists_with, with_item}
-use Rattle.ultra_serial.specs.ByName.{place_of}
+use Rattle.std.proofs.{Common.{◌≡◌, ℕ, subst, ap, ◌∙◌}, lemmas.Result.on_ok_weaker}
+use Rattle.ultra_serial.specs.{ByPair.{is_pair, list_of, lists_with, with_item}, ByName.place_of}
 use Rattle.ultra_serial.proofs.Places.{other_pushed, same_item}
 use Rattle.ultra_serial.proofs.by_name.ListsByName.push.Goals as goal
 

@@ -1,8 +1,5 @@
-use Rattle.std.proofs.Common.{◌≡◌, ℕ, subst, ap, ◌∙◌}
-use Rattle.std.proofs.lemmas.Result.{on_ok_weaker}
-use Rattle.ultra_serial.specs.declared.by_name.ListsByName.{ListsByName}
-use Rattle.ultra_serial.specs.ByPair.{list_of, lists_with}
-use Rattle.ultra_serial.specs.ByName.{one_at, place_of, list_named}
+use Rattle.std.proofs.{Common.{◌≡◌, ℕ, subst, ap, ◌∙◌}, lemmas.Result.on_ok_weaker}
+use Rattle.ultra_serial.specs.{declared.by_name.ListsByName.ListsByName, ByPair.{list_of, lists_with}, ByName.{one_at, place_of, list_named}}
 use Rattle.ultra_serial.proofs.Places.{other_pushed, same_item, both_none}
 use Rattle.ultra_serial.proofs.by_name.ListsByName.push_first.Goals as goal
 

@@ -1,5 +1,4 @@
-use Rattle.std.proofs.Common.{arith}
-use Rattle.std.proofs.lemmas.Grind.{common_steps}
+use Rattle.std.proofs.{Common.arith, lemmas.Grind.common_steps}
 use Rattle.ultra_serial.proofs.by_name.ListsByName.set_place.Goals as goal
 
 pub returns-then-number-len-clause-unchanged : goal.returns-then-number-len-clause-unchanged

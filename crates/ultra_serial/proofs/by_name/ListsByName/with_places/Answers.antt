@@ -1,5 +1,4 @@
-use Rattle.std.proofs.Common.{◌∙◌}
-use Rattle.std.proofs.lemmas.Result.{IfOk-from_err}
+use Rattle.std.proofs.{Common.◌∙◌, lemmas.Result.IfOk-from_err}
 use Rattle.ultra_serial.proofs.by_name.ListsByName.with_places.Goals as goal
 
 pub loop-row-preserved : goal.loop-row-preserved

@@ -1,10 +1,7 @@
-use Rattle.std.proofs.Common.{◌∙◌, sym, ap, arith, get_or}
-use Rattle.std.proofs.lemmas.List.{take_all}
-use Rattle.std.proofs.lemmas.Result.{IfOk-from_err}
+use Rattle.std.proofs.{Common.{◌∙◌, sym, ap, arith, get_or}, lemmas.{List.take_all, Result.IfOk-from_err}}
 use Rattle.ultra_serial_law.specs.Legal.{Cells, with_cell, given}
 use Rattle.ultra_serial.specs.DenseCells.{cells_over}
-use Rattle.ultra_serial.proofs.CellsHeld.{given_more}
-use Rattle.ultra_serial.proofs.DenseCells.{none_given}
+use Rattle.ultra_serial.proofs.{CellsHeld.given_more, DenseCells.none_given}
 use Rattle.ultra_serial.proofs.dense_memory.DenseMemory.new.Goals as goal
 
 pub loop-cell-init : goal.loop-cell-init

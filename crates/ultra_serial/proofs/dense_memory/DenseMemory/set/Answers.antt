@@ -1,7 +1,5 @@
-use Rattle.std.proofs.Common.{arith, ap, ◌∙◌}
-use Rattle.std.proofs.lemmas.Result.{on_ok_weaker}
-use Rattle.ultra_serial.specs.Memory.{cell_in}
-use Rattle.ultra_serial.specs.DenseCells.{cells_over}
+use Rattle.std.proofs.{Common.{arith, ap, ◌∙◌}, lemmas.Result.on_ok_weaker}
+use Rattle.ultra_serial.specs.{Memory.cell_in, DenseCells.cells_over}
 use Rattle.ultra_serial.proofs.DenseCells.{low_set, high_set}
 use Rattle.ultra_serial.proofs.dense_memory.DenseMemory.set.Goals as goal
 

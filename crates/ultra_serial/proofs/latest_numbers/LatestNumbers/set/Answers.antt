@@ -1,6 +1,4 @@
-use Rattle.std.proofs.Common.{◌<◌, ◌≤◌, length, arith}
-use Rattle.std.proofs.lemmas.Option.{slice_get_read, slice_get_past}
-use Rattle.std.proofs.lemmas.Result.{on_ok_weaker}
+use Rattle.std.proofs.{Common.{◌<◌, ◌≤◌, length, arith}, lemmas.{Option.{slice_get_read, slice_get_past}, Result.on_ok_weaker}}
 use Rattle.ultra_serial.specs.LatestNumbers.{number_under}
 use Rattle.ultra_serial.proofs.LatestNumbers.{row_set, other_set}
 use Rattle.ultra_serial.proofs.latest_numbers.LatestNumbers.set.Goals as goal

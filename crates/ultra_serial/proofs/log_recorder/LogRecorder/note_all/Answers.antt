@@ -1,7 +1,6 @@
 use Rattle.std.proofs.Common.{arith, take, subst, sym}
 use Rattle.ultra_serial.specs.LogRecorder.{Records, logged_all}
-use Rattle.ultra_serial.proofs.Turns.{some_event}
-use Rattle.ultra_serial.proofs.Numbers.{logged_more}
+use Rattle.ultra_serial.proofs.{Turns.some_event, Numbers.logged_more}
 use Rattle.ultra_serial.proofs.log_recorder.LogRecorder.note_all.Goals as goal
 
 pub loop-event-preserved : goal.loop-event-preserved

@@ -1,5 +1,4 @@
-use Rattle.std.proofs.Common.{arith}
-use Rattle.std.proofs.lemmas.Grind.{common_steps}
+use Rattle.std.proofs.{Common.arith, lemmas.Grind.common_steps}
 use Rattle.ultra_serial.proofs.log_recorder.LogRecorder.record.Goals as goal
 
 pub returns-in_err-machine-clause-log : goal.returns-in_err-machine-clause-log

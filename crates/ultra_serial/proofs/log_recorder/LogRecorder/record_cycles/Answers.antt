@@ -1,8 +1,7 @@
 use Rattle.std.proofs.Common.{◌≡◌, ◌+◌, inl, inr, true, rules, arith, sym, ap, subst, ◌∙◌}
 use Rattle.ultra_machine.specs.MachineState.{MachineState}
 use Rattle.ultra_model.specs.Machine.{is_quiet}
-use Rattle.ultra_serial_law.specs.Log.{Log}
-use Rattle.ultra_serial_law.specs.SerialList.{History, history}
+use Rattle.ultra_serial_law.specs.{Log.Log, SerialList.{History, history}}
 use Rattle.ultra_serial.specs.LogRecorder.{Records}
 use Rattle.ultra_serial.proofs.Cycles.{cycles_after, running_start, running_next, has_run, history_start, history_next}
 use Rattle.ultra_serial.proofs.Numbers.{noted_log}

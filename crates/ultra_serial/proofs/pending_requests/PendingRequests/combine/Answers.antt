@@ -1,5 +1,4 @@
-use Rattle.std.proofs.Common.{◌∙◌, ap, sym}
-use Rattle.std.proofs.lemmas.Result.{on_ok_weaker}
+use Rattle.std.proofs.{Common.{◌∙◌, ap, sym}, lemmas.Result.on_ok_weaker}
 use Rattle.ultra_serial_law.specs.Tree.{without}
 use Rattle.ultra_serial.specs.PendingRow.{items_in}
 use Rattle.ultra_serial.proofs.Stacks.{keeps_none, keeps_combined, keeps_own}

@@ -1,7 +1,5 @@
-use Rattle.std.proofs.Common.{◌∙◌, ap, [], ◌∷◌, ◌++◌}
-use Rattle.std.proofs.lemmas.Result.{on_ok_weaker}
-use Rattle.ultra_serial_law.specs.Tree.{leaf}
-use Rattle.ultra_serial_law.specs.declared.records.NamedRequest.{NamedRequest}
+use Rattle.std.proofs.{Common.{◌∙◌, ap, [], ◌∷◌, ◌++◌}, lemmas.Result.on_ok_weaker}
+use Rattle.ultra_serial_law.specs.{Tree.leaf, declared.records.NamedRequest.NamedRequest}
 use Rattle.ultra_serial.proofs.Stacks.{keeps_same}
 use Rattle.ultra_serial.proofs.pending_requests.PendingRequests.issue.Goals as goal
 

@@ -1,9 +1,7 @@
 use Rattle.std.proofs.Common.{◌%◌, ◌<◌, ◌≤◌, ◌∙◌, length, ap, arith}
-use Rattle.std.specs.Prelude.{OnOk, Result, Ok, Err}
-use Rattle.std.specs.Global.{Vec}
+use Rattle.std.specs.{Prelude.{OnOk, Result, Ok, Err}, Global.Vec}
 use Rattle.std.proofs.lemmas.Option.{slice_get_read}
-use Rattle.ultra_serial.specs.declared.pending_row.PendingRow.{PendingRow}
-use Rattle.ultra_serial.specs.PendingRequests.{chains_in}
+use Rattle.ultra_serial.specs.{declared.pending_row.PendingRow.PendingRow, PendingRequests.chains_in}
 use Rattle.ultra_serial.proofs.PendingRows.{chain_joined, none_joined}
 use Rattle.ultra_serial.proofs.pending_requests.PendingRequests.join.Goals as goal
 

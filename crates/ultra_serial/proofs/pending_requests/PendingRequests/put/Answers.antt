@@ -1,9 +1,7 @@
 use Rattle.std.proofs.Common.{◌%◌, ◌<◌, ◌∙◌, length, refl, arith}
 use Rattle.std.specs.Vec.{with_item}
-use Rattle.std.proofs.lemmas.Option.{slice_get_read}
-use Rattle.std.proofs.lemmas.Result.{on_ok_weaker}
-use Rattle.ultra_serial.proofs.PendingRows.{chain_put}
-use Rattle.ultra_serial.proofs.Stacks.{keeps_more}
+use Rattle.std.proofs.lemmas.{Option.slice_get_read, Result.on_ok_weaker}
+use Rattle.ultra_serial.proofs.{PendingRows.chain_put, Stacks.keeps_more}
 use Rattle.ultra_serial.proofs.pending_requests.PendingRequests.put.Goals as goal
 
 pub returns : goal.returns

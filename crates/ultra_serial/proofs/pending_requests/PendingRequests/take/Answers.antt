@@ -1,11 +1,8 @@
 use Rattle.std.proofs.Common.{◌%◌, ◌<◌, ◌≤◌, length, refl, arith, sym, ap, None}
 use Rattle.std.specs.Vec.{with_item}
-use Rattle.std.proofs.lemmas.List.{append-nil}
-use Rattle.std.proofs.lemmas.Option.{slice_get_read, slice_get_past}
-use Rattle.ultra_serial.specs.PendingRow.{leaves_under}
-use Rattle.ultra_serial.specs.PendingRequests.{requests_in, chains_of}
-use Rattle.ultra_serial.proofs.PendingRows.{chain_taken, chain_empty, chain_others}
-use Rattle.ultra_serial.proofs.Stacks.{taken_leaves, keeps_rest}
+use Rattle.std.proofs.lemmas.{List.append-nil, Option.{slice_get_read, slice_get_past}}
+use Rattle.ultra_serial.specs.{PendingRow.leaves_under, PendingRequests.{requests_in, chains_of}}
+use Rattle.ultra_serial.proofs.{PendingRows.{chain_taken, chain_empty, chain_others}, Stacks.{taken_leaves, keeps_rest}}
 use Rattle.ultra_serial.proofs.pending_requests.PendingRequests.take.Goals as goal
 
 pub returns-then-row-len-clause-kept : goal.returns-then-row-len-clause-kept

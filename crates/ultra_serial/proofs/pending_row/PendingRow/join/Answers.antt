@@ -1,6 +1,4 @@
-use Rattle.std.proofs.Common.{length, refl}
-use Rattle.std.proofs.lemmas.Option.{slice_get_read}
-use Rattle.std.proofs.lemmas.Result.{on_ok_weaker}
+use Rattle.std.proofs.{Common.{length, refl}, lemmas.{Option.slice_get_read, Result.on_ok_weaker}}
 use Rattle.ultra_serial.proofs.PendingRows.{row_joined}
 use Rattle.ultra_serial.proofs.pending_row.PendingRow.join.Goals as goal
 

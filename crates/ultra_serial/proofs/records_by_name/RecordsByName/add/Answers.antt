@@ -1,12 +1,7 @@
-use Rattle.std.proofs.Common.{◌≡◌, ℕ, arith, get_or, subst}
-use Rattle.std.proofs.lemmas.Option.{slice_get-get_or, get_or_from_slice_get}
-use Rattle.ultra_serial.specs.ByPair.{lists_with}
-use Rattle.ultra_serial.proofs.Searching.{some_entry}
-use Rattle.std.proofs.lemmas.Result.{on_ok_weaker}
-use Rattle.ultra_serial.specs.ByName.{list_named}
-use Rattle.ultra_serial.specs.RecordsByName.{entries_named}
+use Rattle.std.proofs.{Common.{◌≡◌, ℕ, arith, get_or, subst}, lemmas.{Option.{slice_get-get_or, get_or_from_slice_get}, Result.on_ok_weaker}}
+use Rattle.ultra_serial.specs.{ByPair.lists_with, ByName.list_named, RecordsByName.entries_named}
+use Rattle.ultra_serial.proofs.{Searching.some_entry, RecordsByName.more_by_name}
 use Rattle.ultra_serial_law.specs.declared.records.Entry.{Entry}
-use Rattle.ultra_serial.proofs.RecordsByName.{more_by_name}
 use Rattle.ultra_serial.proofs.records_by_name.RecordsByName.add.Goals as goal
 
 pub returns-clause-records : goal.returns-clause-records

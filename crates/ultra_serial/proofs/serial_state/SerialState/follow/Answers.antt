@@ -1,5 +1,4 @@
-use Rattle.std.proofs.Common.{refl}
-use Rattle.std.proofs.lemmas.Result.{on_ok_weaker}
+use Rattle.std.proofs.{Common.refl, lemmas.Result.on_ok_weaker}
 use Rattle.ultra_serial.specs.declared.serial_state.SerialState.{SerialState}
 use Rattle.ultra_serial.proofs.Turns.{follows_cleared}
 use Rattle.ultra_serial.proofs.serial_state.SerialState.follow.Goals as goal

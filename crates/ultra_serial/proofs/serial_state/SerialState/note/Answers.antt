@@ -1,14 +1,9 @@
-use Rattle.std.proofs.Common.{refl, sym, subst, ◌∙◌}
+use Rattle.std.proofs.{Common.{refl, sym, subst, ◌∙◌}, lemmas.Result.on_ok_weaker}
 use Rattle.std.specs.Prelude.{Result, Ok, Err, OnOk}
-use Rattle.std.proofs.lemmas.Result.{on_ok_weaker}
-use Rattle.ultra_serial_law.specs.Tree.{tree_of, without}
-use Rattle.ultra_serial.specs.declared.serial_state.SerialState.{SerialState}
-use Rattle.ultra_msg.specs.declared.Event.{Event}
-use Rattle.ultra_msg.specs.declared.Event.TheVariants.{Delivered, Served, Combined, Issued}
-use Rattle.ultra_serial_law.specs.SerialList.{after_event}
-use Rattle.ultra_serial.specs.Following.{Follows}
-use Rattle.ultra_serial.proofs.Stacks.{keeps_same}
-use Rattle.ultra_serial.proofs.Turns.{serving_more, nothing_served, leaves_taken, no_leaves_taken}
+use Rattle.ultra_serial_law.specs.{Tree.{tree_of, without}, SerialList.after_event}
+use Rattle.ultra_serial.specs.{declared.serial_state.SerialState.SerialState, Following.Follows}
+use Rattle.ultra_msg.specs.declared.Event.{Event, TheVariants.{Delivered, Served, Combined, Issued}}
+use Rattle.ultra_serial.proofs.{Stacks.keeps_same, Turns.{serving_more, nothing_served, leaves_taken, no_leaves_taken}}
 use Rattle.ultra_serial.proofs.serial_state.SerialState.note.Goals as goal
 
 always : {T E P : Type 0} (r : Result T E) → P → OnOk r P

@@ -1,5 +1,4 @@
-use Rattle.std.proofs.Common.{arith, take, subst, sym}
-use Rattle.std.proofs.lemmas.List.{take_all}
+use Rattle.std.proofs.{Common.{arith, take, subst, sym}, lemmas.List.take_all}
 use Rattle.ultra_serial_law.specs.SerialList.{noted}
 use Rattle.ultra_serial.specs.Following.{Follows}
 use Rattle.ultra_serial.proofs.Turns.{noted_more, some_event}

@@ -1,6 +1,5 @@
 use Rattle.std.proofs.Common.{ℕ, List, take}
-use Rattle.ultra_serial_law.specs.declared.records.Entry.{Entry}
-use Rattle.ultra_serial_law.specs.SerialList.{History, noted}
+use Rattle.ultra_serial_law.specs.{declared.records.Entry.Entry, SerialList.{History, noted}}
 use Rattle.ultra_serial.specs.Following.{Follows}
 use Rattle.ultra_serial.proofs.serial_state.SerialState.note_all.Given as goal
 

@@ -1,7 +1,6 @@
 use Rattle.std.proofs.Common.{◌∙◌}
-use Rattle.ultra_sweep_command.proofs.Sharing.{fresh-read}
+use Rattle.ultra_sweep_command.proofs.{Sharing.fresh-read, sweep_threads.SweepThreads.watch.Goals.{in-None, in-Some+then-ended-threads}}
 use Rattle.ultra_sweep_command.proofs.sweep_threads.SweepThreads.watch.Goals as goal
-use Rattle.ultra_sweep_command.proofs.sweep_threads.SweepThreads.watch.Goals.{in-None, in-Some+then-ended-threads}
 
 pub loop-preserved : goal.loop-preserved
 loop-preserved g c =

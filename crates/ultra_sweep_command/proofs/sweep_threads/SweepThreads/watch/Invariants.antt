@@ -1,8 +1,7 @@
 use Rattle.std.proofs.Common.{◌≡◌}
 use Rattle.ultra_io.specs.Account.{SinkState}
-use Rattle.ultra_sweep_command.specs.SeatResults.{AreSweepThreads}
+use Rattle.ultra_sweep_command.specs.{SeatResults.AreSweepThreads, Shown.HasShown}
 use Rattle.ultra_inputs.specs.Shown.{stream}
-use Rattle.ultra_sweep_command.specs.Shown.{HasShown}
 use Rattle.ultra_sweep_command.proofs.sweep_threads.SweepThreads.watch.Given as goal
 
 abbrev pub invariant-loop : goal.invariant-loop

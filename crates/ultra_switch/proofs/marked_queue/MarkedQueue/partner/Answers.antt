@@ -1,5 +1,4 @@
-use Rattle.std.proofs.Common.{rules, true, false}
-use Rattle.std.proofs.lemmas.Iterator.{first_from_Range}
+use Rattle.std.proofs.{Common.{rules, true, false}, lemmas.Iterator.first_from_Range}
 use Rattle.ultra_switch.specs.Arrive.{can_combine}
 use Rattle.ultra_switch.proofs.Partners.{Says, first_of_places}
 use Rattle.ultra_switch.proofs.marked_queue.MarkedQueue.partner.Goals as goal

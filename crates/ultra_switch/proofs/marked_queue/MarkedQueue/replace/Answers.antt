@@ -1,5 +1,4 @@
-use Rattle.std.proofs.Common.{arith, refl}
-use Rattle.std.proofs.lemmas.List.{length-set}
+use Rattle.std.proofs.{Common.{arith, refl}, lemmas.List.length-set}
 use Rattle.ultra_switch.proofs.Marking.{are_of-set, length-marked_by, set-marked_by}
 use Rattle.ultra_switch.proofs.marked_queue.MarkedQueue.replace.Goals as goal
 

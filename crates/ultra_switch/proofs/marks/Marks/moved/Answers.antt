@@ -1,5 +1,4 @@
-use Rattle.std.proofs.Common.{refl}
-use Rattle.std.proofs.lemmas.Nat.Bits.{bit_at-suc}
+use Rattle.std.proofs.{Common.refl, lemmas.Nat.Bits.bit_at-suc}
 use Rattle.ultra_switch.specs.Marks.{has_mark}
 use Rattle.ultra_switch.proofs.marks.Marks.moved.Goals as goal
 

@@ -1,6 +1,5 @@
-use Rattle.std.proofs.Common.{refl}
+use Rattle.std.proofs.{Common.refl, lemmas.Nat.Bits.{bit_at_set_same, bit_at_set_other}}
 use Rattle.std.specs.Int.{w32}
-use Rattle.std.proofs.lemmas.Nat.Bits.{bit_at_set_same, bit_at_set_other}
 use Rattle.ultra_switch.specs.Marks.{has_mark}
 use Rattle.ultra_switch.proofs.marks.Marks.with.Goals as goal
 

@@ -1,5 +1,4 @@
-use Rattle.std.proofs.Common.{arith}
-use Rattle.std.proofs.lemmas.Grind.{common_steps}
+use Rattle.std.proofs.{Common.arith, lemmas.Grind.common_steps}
 use Rattle.ultra_topology.proofs.links.Links.empty.Goals as goal
 
 pub returns-in_err-table-clause-stages : goal.returns-in_err-table-clause-stages

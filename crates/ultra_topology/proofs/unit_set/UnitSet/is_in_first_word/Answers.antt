@@ -1,5 +1,5 @@
 use Rattle.std.proofs.Common.{ℕ, arith}
-use Rattle.ultra_topology.proofs.{Common.HasNoneFrom, Common.nat_tests, Set.set_steps, Set.zero_where_none}
+use Rattle.ultra_topology.proofs.{Common.{HasNoneFrom, nat_tests}, Set.{set_steps, zero_where_none}}
 use Rattle.ultra_topology.proofs.unit_set.UnitSet.is_in_first_word.Goals as goal
 
 pub returns : goal.returns

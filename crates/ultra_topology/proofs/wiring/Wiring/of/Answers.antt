@@ -1,6 +1,6 @@
 use Rattle.std.proofs.Common.{◌≡◌, ℕ, ◌+◌, List, ◌++◌, ◌∷◌, [], length-append, arith}
 use Rattle.std.proofs.lemmas.Grind.{common_steps}
-use Rattle.ultra_topology.specs.{Units.index_of, Units.stage_of, Wiring.AreNeighbours, Wiring.neighbours, declared.wiring.Neighbours.Neighbours}
+use Rattle.ultra_topology.specs.{Units.{index_of, stage_of}, Wiring.{AreNeighbours, neighbours}, declared.wiring.Neighbours.Neighbours}
 use Rattle.ultra_topology.proofs.wiring.Wiring.of.Goals as goal
 
 pub returns-in_err-switches : goal.returns-in_err-switches

@@ -1,5 +1,4 @@
-use Rattle.std.proofs.Common.{subst, sym, arith}
-use Rattle.std.proofs.lemmas.Grind.{common_steps}
+use Rattle.std.proofs.{Common.{subst, sym, arith}, lemmas.Grind.common_steps}
 use Rattle.ultra_topology.specs.Inlets.{LeadOn, request_inlets}
 use Rattle.ultra_topology.proofs.Readers.{entry_requests_lead}
 use Rattle.ultra_topology.proofs.wiring.Wiring.request_targets.Goals as goal

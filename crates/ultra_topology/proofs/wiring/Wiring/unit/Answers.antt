@@ -1,5 +1,4 @@
-use Rattle.std.proofs.Common.{arith}
-use Rattle.std.proofs.lemmas.Grind.{common_steps}
+use Rattle.std.proofs.{Common.arith, lemmas.Grind.common_steps}
 use Rattle.ultra_topology.proofs.wiring.Wiring.unit.Goals as goal
 
 pub returns-then-number-self-clause-value : goal.returns-then-number-self-clause-value

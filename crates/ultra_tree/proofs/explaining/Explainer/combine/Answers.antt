@@ -1,10 +1,8 @@
 use Rattle.std.proofs.Common.{ap, subst, sym, ◌∙◌, arith}
 use Rattle.std.specs.Prelude.{IsSome}
-use Rattle.ultra_serial_law.specs.Tree.{tree_of}
-use Rattle.ultra_serial_law.specs.Explicable.{held_by}
+use Rattle.ultra_serial_law.specs.{Tree.tree_of, Explicable.held_by}
 use Rattle.ultra_tree.specs.Absorb.{ExplainerState}
-use Rattle.ultra_tree.proofs.Kept.{tree_other}
-use Rattle.ultra_tree.proofs.Counted.{fewer_rest}
+use Rattle.ultra_tree.proofs.{Kept.tree_other, Counted.fewer_rest}
 use Rattle.ultra_tree.proofs.explaining.Explainer.combine.Goals as goal
 
 pub take-of_new-requires : goal.take-of_new-requires

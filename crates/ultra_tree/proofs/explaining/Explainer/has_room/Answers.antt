@@ -1,5 +1,4 @@
-use Rattle.std.proofs.lemmas.Grind.{common_steps}
-use Rattle.std.proofs.Common.{length, ap, arith}
+use Rattle.std.proofs.{lemmas.Grind.common_steps, Common.{length, ap, arith}}
 use Rattle.ultra_tree.specs.Absorb.{ExplainerState}
 use Rattle.ultra_tree.proofs.Rows.{row_within}
 use Rattle.ultra_tree.proofs.explaining.Explainer.has_room.Goals as goal

@@ -1,8 +1,7 @@
 use Rattle.std.proofs.Common.{ap, subst, sym, ◌∙◌}
 use Rattle.std.specs.Prelude.{not, is_some}
 use Rattle.ultra_serial_law.specs.Tree.{tree_of}
-use Rattle.ultra_tree.specs.Absorb.{ExplainerState}
-use Rattle.ultra_tree.specs.Slots.{AreSlotsOf, trees_of}
+use Rattle.ultra_tree.specs.{Absorb.ExplainerState, Slots.{AreSlotsOf, trees_of}}
 use Rattle.ultra_tree.proofs.Agreement.{held_if_found, not_some}
 use Rattle.ultra_tree.proofs.explaining.Explainer.holds.Goals as goal
 

@@ -1,7 +1,6 @@
 use Rattle.std.proofs.Common.{subst, sym, arith, []}
 use Rattle.ultra_tree.specs.Slots.{AreSlotsOf}
-use Rattle.ultra_tree.proofs.Counted.{within_none}
-use Rattle.ultra_tree.proofs.Agreement.{slots_none}
+use Rattle.ultra_tree.proofs.{Counted.within_none, Agreement.slots_none}
 use Rattle.ultra_tree.proofs.explaining.Explainer.new.Goals as goal
 
 pub invariant_of-result : goal.invariant_of-result

@@ -1,15 +1,8 @@
-use Rattle.std.proofs.lemmas.Grind.{common_steps}
+use Rattle.std.proofs.lemmas.{Grind.common_steps, Option.slice_get_within}
 use Rattle.std.proofs.Common.{◌≡◌, ◌∷◌, length, set, ap, subst, sym, ◌∙◌, arith}
-use Rattle.std.proofs.lemmas.Option.{slice_get_within}
-use Rattle.ultra_serial_law.specs.Tree.{kept, tree_of}
-use Rattle.ultra_serial_law.specs.Explicable.{held_by}
-use Rattle.ultra_tree.specs.Absorb.{ExplainerState, AreWithin}
-use Rattle.ultra_tree.specs.Seen.{seen}
-use Rattle.ultra_tree.specs.Slots.{AreSlotsOf, IsFreePlace, trees_of}
-use Rattle.ultra_tree.specs.declared.slots.Slot.TheVariants.{Free, Held}
-use Rattle.ultra_tree.proofs.Counted.{within_more}
-use Rattle.ultra_tree.proofs.Rows.{row_within}
-use Rattle.ultra_tree.proofs.Agreement.{slots_put}
+use Rattle.ultra_serial_law.specs.{Tree.{kept, tree_of}, Explicable.held_by}
+use Rattle.ultra_tree.specs.{Absorb.{ExplainerState, AreWithin}, Seen.seen, Slots.{AreSlotsOf, IsFreePlace, trees_of}, declared.slots.Slot.TheVariants.{Free, Held}}
+use Rattle.ultra_tree.proofs.{Counted.within_more, Rows.row_within, Agreement.slots_put}
 use Rattle.ultra_tree.proofs.explaining.Explainer.put.Goals as goal
 
 pub free_place-place-requires-clause-within : goal.free_place-place-requires-clause-within

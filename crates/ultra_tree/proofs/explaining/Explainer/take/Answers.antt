@@ -1,15 +1,9 @@
 use Rattle.std.proofs.Common.{◌≡◌, set, ap, subst, sym, ◌∙◌, arith, Some}
 use Rattle.std.specs.Prelude.{IsSome, is_some}
-use Rattle.std.proofs.lemmas.Bool.{false≢true}
-use Rattle.std.proofs.lemmas.Option.{slice_get_within, get_or_from_slice_get}
-use Rattle.ultra_serial_law.specs.Tree.{tree_of, without}
-use Rattle.ultra_serial_law.specs.Explicable.{held_by}
-use Rattle.ultra_tree.specs.Absorb.{ExplainerState, AreWithin}
-use Rattle.ultra_tree.specs.Seen.{seen}
-use Rattle.ultra_tree.specs.Slots.{AreSlotsOf, IsFirstFor, trees_of}
-use Rattle.ultra_tree.specs.declared.slots.Slot.TheVariants.{Held}
-use Rattle.ultra_tree.proofs.Counted.{within_rest, element_of, one_fewer}
-use Rattle.ultra_tree.proofs.Agreement.{tree_found, tree_missed, slots_taken, none_left}
+use Rattle.std.proofs.lemmas.{Bool.false≢true, Option.{slice_get_within, get_or_from_slice_get}}
+use Rattle.ultra_serial_law.specs.{Tree.{tree_of, without}, Explicable.held_by}
+use Rattle.ultra_tree.specs.{Absorb.{ExplainerState, AreWithin}, Seen.seen, Slots.{AreSlotsOf, IsFirstFor, trees_of}, declared.slots.Slot.TheVariants.Held}
+use Rattle.ultra_tree.proofs.{Counted.{within_rest, element_of, one_fewer}, Agreement.{tree_found, tree_missed, slots_taken, none_left}}
 use Rattle.ultra_tree.proofs.explaining.Explainer.take.Goals as goal
 
 pub unreachable-requires : goal.unreachable-requires

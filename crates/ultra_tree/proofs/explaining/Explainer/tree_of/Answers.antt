@@ -1,10 +1,7 @@
 use Rattle.std.proofs.Common.{◌≡◌, ap, subst, sym, ◌∙◌, arith, Some}
 use Rattle.std.proofs.lemmas.Option.{slice_get_within, get_or_from_slice_get}
 use Rattle.ultra_serial_law.specs.Tree.{tree_of}
-use Rattle.ultra_tree.specs.Absorb.{ExplainerState}
-use Rattle.ultra_tree.specs.Seen.{seen}
-use Rattle.ultra_tree.specs.Slots.{AreSlotsOf, IsFirstFor, trees_of}
-use Rattle.ultra_tree.specs.declared.slots.Slot.TheVariants.{Held}
+use Rattle.ultra_tree.specs.{Absorb.ExplainerState, Seen.seen, Slots.{AreSlotsOf, IsFirstFor, trees_of}, declared.slots.Slot.TheVariants.Held}
 use Rattle.ultra_tree.proofs.Agreement.{tree_found, tree_missed}
 use Rattle.ultra_tree.proofs.explaining.Explainer.tree_of.Goals as goal
 

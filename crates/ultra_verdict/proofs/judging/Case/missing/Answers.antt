@@ -1,5 +1,4 @@
-use Rattle.ultra_serial_law.specs.Log.{log_of}
-use Rattle.ultra_serial_law.specs.Legal.{given}
+use Rattle.ultra_serial_law.specs.{Log.log_of, Legal.given}
 use Rattle.ultra_verdict.proofs.Verdicts.{missing_at, missing_request}
 use Rattle.ultra_verdict.proofs.judging.Case.missing.Goals as goal
 

@@ -1,6 +1,5 @@
 use Rattle.std.proofs.Common.{arith, take, subst}
-use Rattle.ultra_serial_law.specs.Log.{log_of}
-use Rattle.ultra_serial_law.specs.Legal.{given}
+use Rattle.ultra_serial_law.specs.{Log.log_of, Legal.given}
 use Rattle.ultra_serial.specs.LatestIssue.{IsNoneIssued, IsLatestIssue}
 use Rattle.ultra_verdict.proofs.Verdicts.{late_line, some_issued, answered_early}
 use Rattle.ultra_verdict.proofs.judging.Case.too_late.Goals as goal
