@@ -11,7 +11,9 @@ SETTINGS = {
     "stages": (1, 6), "request_places": (2, 32), "reply_places": (4, 64), "wait_places": (0, 16), "open": (1, 8),
     "cells": (1, 4096), "cycles": (1, 1_000_000),
 }
-TRAFFIC = ("rate", "think", "operation", "hot", "spread", "seed")
+TRAFFIC = ("pattern", "rate", "think", "operation", "hot", "spread", "burst", "seed")
+LOAD_NAMES = ("pattern", "operation")
+LOAD_MEANS = ("rate", "think", "burst")  # these may have a fraction
 TOP = ("title", "programs", "traffic", "fixed", "vary", "where", "hot_cells", "columns", "plot")
 PLOT = ("name", "title", "x", "y", "by", "label", "where", "x_label", "y_label", "log", "dashed", "line")
 LINE = ("y", "by", "label", "where", "dashed")
@@ -109,9 +111,9 @@ def values(value, key):
 
 
 def load_values(name, value):
-    """The values of a parameter of a load: numbers, or operations. `studies/traffic` has their ranges."""
-    kinds = {"operation": (str,), "rate": (int, float), "think": (int, float)}.get(name, (int,))
-    fault = "must be texts" if name == "operation" else "must be numbers"
+    """The values of a parameter of a load: numbers or names. `studies/traffic` has their ranges."""
+    kinds = (str,) if name in LOAD_NAMES else (int, float) if name in LOAD_MEANS else (int,)
+    fault = "must be texts" if name in LOAD_NAMES else "must be numbers"
     found = values(value, f"traffic.{name}")
     need(all(type(it) in kinds for it in found), f"traffic.{name}", fault)
     return found
