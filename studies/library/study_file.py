@@ -53,6 +53,8 @@ class Study:
     title: str
     axes: dict  # each varied name with its values, in the order of the file
     fixed: dict
+    parameters: dict  # of `fixed` and of `vary`, the names that aren't settings: programs have them
+    initial: list  # pairs of a cell and its value at the start
     programs: dict  # the source of each program: a file, or the arguments of `ultra lib`
     hot_cells: list
     where: Formula | None = None
@@ -119,6 +121,14 @@ def load_values(name, value):
     return found
 
 
+def parameter(name, value, key):
+    """A value that a program has in place of a name."""
+    need(name.isidentifier() and name.isascii(), key, "unknown key")
+    need(type(value) in (int, float, str), key, "must be a number or a text")
+    need(not isinstance(value, str) or len(value.splitlines()) == 1, key, "must be one line")
+    return value
+
+
 def programs_of(raw):
     """The programs: each its name in the table, and where its text comes from."""
     if isinstance(raw, list):
@@ -132,28 +142,55 @@ def programs_of(raw):
 def axes_of(raw, programs):
     """The varied names with their values, in the order of the file."""
     axes = {}
+
+    def add(name, its_values, key):
+        need(name not in axes, key, "is a column already")
+        axes[name] = its_values
+
     for table in raw:
         if table == "programs":
-            axes["program"] = list(programs)
+            add("program", list(programs), "vary.program")
         elif table == "traffic":
             known(raw[table], TRAFFIC, table)
             need(("rate" in raw[table]) != ("think" in raw[table]), "traffic", "give either rate or think")
-            axes |= {name: load_values(name, it) for name, it in raw[table].items()}
-        elif table == "vary":
-            known(raw[table], SETTINGS, table)
             for name, it in raw[table].items():
-                axes[name] = [setting(name, one, f"vary.{name}") for one in values(it, f"vary.{name}")]
+                add(name, load_values(name, it), f"vary.{name}")
+        elif table == "vary":
+            need(isinstance(raw[table], dict), table, "must be a table")
+            for name, it in raw[table].items():
+                key, one = f"vary.{name}", setting if name in SETTINGS else parameter
+                add(name, [one(name, value, key) for value in values(it, key)], key)
     return axes
 
 
 def fixed_of(raw, axes):
+    """The names with one value each, without `initial`."""
     fixed = raw.get("fixed", {})
-    known(fixed, SETTINGS, "fixed")
+    need(isinstance(fixed, dict), "fixed", "must be a table")
+    fixed = {name: value for name, value in fixed.items() if name != "initial"}
     for name, value in fixed.items():
-        setting(name, value, f"fixed.{name}")
-        need(name not in axes, f"fixed.{name}", "is varied too")
+        key, one = f"fixed.{name}", setting if name in SETTINGS else parameter
+        one(name, value, key)
+        need(name not in axes, key, "is varied too")
     need("stages" in fixed or "stages" in axes, "fixed.stages", "is missing")
     return fixed
+
+
+def initial_of(raw):
+    """The cells that don't begin with 0, as pairs of an address and a value."""
+    found = raw.get("fixed", {}).get("initial", [])
+    is_good = isinstance(found, list) and all(isinstance(it, list) and [*map(type, it)] == [int, int] for it in found)
+    need(is_good, "fixed.initial", "must be a list of pairs [address, value]")
+    for address, value in found:
+        need(0 <= address < 2**18, "fixed.initial", f"there is no cell {address}")
+        need(0 <= value < 2**32, "fixed.initial", f"{value} isn't below 4294967296")
+    need(len({address for address, _ in found}) == len(found), "fixed.initial", "has a cell twice")
+    return found
+
+
+def parameters_of(raw):
+    """Of `fixed` and of `vary`, the names that aren't settings."""
+    return {table: [it for it in raw.get(table, {}) if it not in SETTINGS and it != "initial"] for table in ("fixed", "vary")}
 
 
 def hot_cells_of(raw):
@@ -226,6 +263,7 @@ def study_of(bytes_):
     axes = axes_of(raw, programs)
     study = Study(
         title=text(raw, "title", "title"), axes=axes, fixed=fixed_of(raw, axes), programs=programs,
+        parameters=parameters_of(raw), initial=initial_of(raw),
         hot_cells=hot_cells_of(raw), columns=columns_of(raw),
         where=formula(raw["where"], "where", axes) if "where" in raw else None,
         plots=plots_of(raw),

@@ -286,6 +286,23 @@ class Running(InFolder):
         ran = self.study('title = "t"\n[programs]\nwait = "lib barrier 4"\n[fixed]\nstages = 1\n')
         self.assertEqual((ran.returncode, self.table()[1]), (0, "wait,1,2,100,5,"))
 
+    def test_names_in_a_program_are_filled_in(self):
+        (self.folder / "loop.s").write_text("li r5 $rounds ; ${rounds}, $$5\n$what r1 r0 r0\nli r2 $stages\n")
+        text = 'title = "t"\nprograms = ["loop.s", "short.s"]\n[vary]\nrounds = [7, 11]\n[fixed]\nstages = 1\nwhat = "faa"\n'
+        ran = self.study(text)
+        self.assertEqual(ran.returncode, 0, ran.stderr)
+        programs = {it.read_text() for it in (self.folder / "out" / "programs").iterdir()}
+        filled = {f"li r5 {it} ; {it}, $5\nfaa r1 r0 r0\nli r2 1\n" for it in (7, 11)}
+        self.assertEqual(programs, {"halt\n", *filled})
+        self.assertEqual([it.split(",")[:3] for it in self.table()], [
+            ["program", "rounds", "stages"], ["loop.s", "7", "1"], ["loop.s", "11", "1"], ["short.s", "7", "1"], ["short.s", "11", "1"],
+        ])
+
+    def test_initial_cells(self):
+        self.assertEqual(self.study(SMALL + "[fixed]\ncells = 2\ninitial = [[0, 5], [3, 4294967295]]\n").returncode, 0)
+        settings = {it.read_text() for it in (self.folder / "out" / "settings").iterdir()}
+        self.assertIn("stages = 1\nwait_places = 4\ncells = 2\ninitial = [[0, 5], [3, 4294967295]]\n", settings)
+
     def test_where_it_is_written(self):
         self.study(SMALL, "--out", "elsewhere")
         self.assertTrue((self.folder / "elsewhere" / "results.csv").is_file())
@@ -486,6 +503,37 @@ class Refusals(InFolder):
             (whole + '[[plot]]\ntitle = "t"\nx = "pes"\nline = [1]\n', "plot[0].line[0]: must be a table"),
         ):
             self.assertEqual(self.refusal(text), fault)
+
+    def test_names_in_programs(self):
+        (self.folder / "short.s").write_text("halt\nli r1 $rounds\n")
+        whole = self.HEAD + self.PROGRAM + self.FIXED
+        self.assertEqual(self.refusal(whole), "programs.short.s: short.s: line 2: $rounds is neither varied nor fixed")
+        for text, fault in (
+            ("rounds = true\n", "fixed.rounds: must be a number or a text"),
+            ('rounds = "1\\nhalt"\n', "fixed.rounds: must be one line"),
+            ('rounds = ""\n', "fixed.rounds: must be one line"),
+            ("rounds = 1\nround = 1\n", "fixed.round: unknown key"),
+            ("rounds = 1\n[vary]\nrounds = [1]\n", "fixed.rounds: is varied too"),
+            ("[vary]\nrounds = [1]\nprogram = [1]\n", "vary.program: is a column already"),
+        ):
+            self.assertEqual(self.refusal(whole + text), fault)
+        self.assertEqual(self.refusal(self.HEAD + self.FIXED + "[traffic]\nrate = [1]\n[vary]\nrate = [1]\n"), "vary.rate: is a column already")
+        for text, line in (("halt\n$ halt", 2), ("$5", 1), ("$$\n\nli r1 $\n", 3)):
+            (self.folder / "short.s").write_text(text)
+            fault = f"programs.short.s: short.s: line {line}: a $ without a name (a $ alone is written $$)"
+            self.assertEqual(self.refusal(whole), fault)
+
+    def test_initial(self):
+        whole = self.HEAD + self.PROGRAM + self.FIXED
+        pairs = "fixed.initial: must be a list of pairs [address, value]"
+        for text, fault in (
+            ("5", pairs), ("[1, 2]", pairs), ("[[1]]", pairs), ("[[1, true]]", pairs), ("[[1, 2, 3]]", pairs),
+            ("[[-1, 2]]", "fixed.initial: there is no cell -1"), ("[[1, 4294967296]]", "fixed.initial: 4294967296 isn't below 4294967296"),
+            ("[[1, 2], [1, 3]]", "fixed.initial: has a cell twice"),
+            ("[[32, 1]]", "fixed.initial: there is no cell 32 where stages = 1 and cells = 16"),
+            ("[[4, 1]]\n[vary]\ncells = [4, 2]", "fixed.initial: there is no cell 4 where stages = 1 and cells = 2"),
+        ):
+            self.assertEqual(self.refusal(f"{whole}initial = {text}\n"), fault)
 
     def test_traffic(self):
         head = self.HEAD + self.FIXED + "[traffic]\n"

@@ -1,0 +1,108 @@
+"""The programs of a study: loads, what `ultra lib` writes, and files, in which `$NAME` is a value of the point."""
+
+import subprocess
+from dataclasses import dataclass
+from string import Template
+
+from library.load import LoadFault, program
+from library.study_file import SETTINGS, TRAFFIC, StudyFault
+
+
+@dataclass(frozen=True)
+class Source:
+    """A program of a study: its name, where it comes from, and its text, which may have names to fill in."""
+
+    name: str
+    source: str
+    text: str
+    has_names: bool
+
+    def fault(self, line, what):
+        return StudyFault(f"programs.{self.name}", f"{self.source}: line {line}: {what}")
+
+    def line_of(self, place):
+        return self.text.count("\n", 0, place) + 1
+
+    def names(self):
+        """The names that are to be filled in, each with its first line. Raises StudyFault."""
+        found = {}
+        for it in Template.pattern.finditer(self.text) if self.has_names else ():
+            if it["invalid"] is not None:
+                raise self.fault(self.line_of(it.start()), "a $ without a name (a $ alone is written $$)")
+            if it["escaped"] is None:
+                found.setdefault(it["named"] or it["braced"], self.line_of(it.start()))
+        return found
+
+    def filled(self, values):
+        """The text with these values in place of the names."""
+        return Template(self.text).substitute(values) if self.has_names else self.text
+
+
+def library_text(name, source, ultra):
+    """What `ultra lib` writes."""
+    ran = subprocess.run([ultra, *source.split()], capture_output=True, text=True)
+    if ran.returncode:
+        raise StudyFault(f"programs.{name}", (ran.stderr.splitlines() or ["refused"])[0])
+    return ran.stdout
+
+
+def sources_of(study, folder, ultra):
+    """The programs of a study by their names. Raises StudyFault."""
+    found = {}
+    for name, source in study.programs.items():
+        if source.startswith("lib "):
+            found[name] = Source(name, source, library_text(name, source, ultra), False)
+            continue
+        try:
+            found[name] = Source(name, source, (folder / source).read_text(), True)
+        except (OSError, UnicodeDecodeError):
+            raise StudyFault(f"programs.{name}", f"cannot read {source}") from None
+    return found
+
+
+def check_names(study, sources):
+    """Refuses a name in a program that nothing fills in, and a parameter that no program has."""
+    used = set()
+    for source in sources.values():
+        for name, line in source.names().items():
+            used.add(name)
+            if name not in study.axes and name not in study.fixed:
+                raise source.fault(line, f"${name} is neither varied nor fixed")
+    for table in ("fixed", "vary"):
+        for name in study.parameters[table]:
+            if name not in used:
+                raise StudyFault(f"{table}.{name}", "unknown key")
+
+
+def load_text(point):
+    """The program of a load."""
+    try:
+        return program(**{it: point[it] for it in TRAFFIC if it in point})
+    except LoadFault as fault:
+        raise StudyFault(f"traffic.{fault.args[0]}", fault.args[1]) from None
+
+
+def settings_text(study, point):
+    """The settings of a point as TOML. Refuses a cell in `initial` that the machine doesn't have."""
+    settings = {it: value for it, value in {**study.fixed, **point}.items() if it in SETTINGS}
+    lines = [f"{it} = {settings[it]}\n" for it in SETTINGS if it in settings]
+    if study.initial:
+        stages, cells = settings["stages"], settings.get("cells", 16)
+        for address, _ in study.initial:
+            if address >= 2**stages * cells:
+                raise StudyFault("fixed.initial", f"there is no cell {address} where stages = {stages} and cells = {cells}")
+        lines.append(f"initial = {study.initial}\n")
+    return "".join(lines)
+
+
+def machines_of(study, sources, points):
+    """The settings and the program of each point, as texts. A load is made once for its values."""
+    loads, found = {}, []
+    for point in points:
+        if sources:
+            text = sources[point["program"]].filled({**study.fixed, **point})
+        else:
+            key = tuple(point.get(it) for it in TRAFFIC)
+            text = loads[key] if key in loads else loads.setdefault(key, load_text(point))
+        found.append((settings_text(study, point), text))
+    return found
