@@ -10,6 +10,7 @@ from dataclasses import dataclass
 from pathlib import Path
 
 MOST_JOBS = 256
+HOT_COLUMNS = ("hot_answered", "hot_latency_mean", "other_answered", "other_latency_mean")
 
 
 class PieceFault(Exception):

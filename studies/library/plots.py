@@ -23,8 +23,24 @@ class Drawn:
     points: list
 
 
+NAME_IN_LABEL = re.compile(r"\{(\w+)\}")
+
+
 def label_of(template, row):
-    return re.sub(r"\{(\w+)\}", lambda it: row.get(it[1], it[0]), template)
+    return NAME_IN_LABEL.sub(lambda it: row[it[1]], template)
+
+
+def check_plots(study, columns):
+    """Refuses a name in a plot that isn't a column."""
+    for plot in study.plots:
+        named = [(f"{plot.key}.x", plot.x)]
+        for line in plot.lines:
+            named += [(f"{line.key}.y", line.y), *((f"{line.key}.by", it) for it in line.by)]
+            named += [(f"{line.key}.where", it) for it in sorted(line.where.names if line.where else ())]
+            named += [(f"{line.key}.label", it) for it in NAME_IN_LABEL.findall(line.label)]
+        for key, name in named:
+            if name not in columns:
+                raise StudyFault(key, f"there is no column {name}")
 
 
 def number_in(row, column, key):
@@ -43,24 +59,20 @@ def points_of(rows, x, y, key):
     return points
 
 
-def lines_of(plot, number_of_plot, rows):
+def lines_of(plot, rows):
     """The lines of a plot."""
     found = []
     for line in plot.lines:
-        key = f"plot[{number_of_plot}]"
-        for it in (plot.x, line.y, *line.by, *sorted(line.where.names if line.where else ())):
-            if it not in rows[0]:
-                raise StudyFault(key, f"there is no column {it}")
         groups = {}
         for row in rows:
             if line.where is None or line.where.value({it: number(row[it]) for it in line.where.names}):
                 groups.setdefault(tuple(row[it] for it in line.by), []).append(row)
         for group, chosen in groups.items():
-            points = points_of(chosen, plot.x, line.y, key)
+            points = points_of(chosen, plot.x, line.y, line.key)
             if points:
                 found.append(Drawn(label_of(line.label, chosen[0]), group, line.is_dashed, points))
     if not found:
-        raise StudyFault(f"plot[{number_of_plot}]", "has no point")
+        raise StudyFault(plot.key, "has no point")
     return found
 
 
@@ -127,7 +139,7 @@ def run_gnuplot(name, folder):
 
 def draw(study, rows, folder):
     """Writes each plot into the folder. False where there is no gnuplot. Raises StudyFault."""
-    scripts = [(it.name, script(it, lines_of(it, index, rows), it.name)) for index, it in enumerate(study.plots)]
+    scripts = [(it.name, script(it, lines_of(it, rows), it.name)) for it in study.plots]
     for name, text in scripts:
         (folder / f"{name}.gp").write_text(text)
         try:

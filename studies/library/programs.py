@@ -5,6 +5,7 @@ from dataclasses import dataclass
 from string import Template
 
 from library.load import LoadFault, program
+from library.pieces import PieceFault, output_of, stored
 from library.study_file import SETTINGS, TRAFFIC, StudyFault
 
 
@@ -106,3 +107,24 @@ def machines_of(study, sources, points):
             text = loads[key] if key in loads else loads.setdefault(key, load_text(point))
         found.append((settings_text(study, point), text))
     return found
+
+
+def check_texts(study, sources, points, machines, folder, ultra):
+    """Has the simulator read each program that is a file. One that it refuses is named by its file and line."""
+    checked = set()
+    for point, (_, text) in zip(points, machines) if sources else ():
+        source = sources[point["program"]]
+        if not source.has_names or text in checked:
+            continue
+        checked.add(text)
+        path = stored(folder, "programs", "s", text)
+        try:
+            output_of(ultra, ["list", path], folder)
+        except PieceFault as fault:
+            start = f"ultra: {path}: "
+            if not str(fault).startswith(start):
+                raise
+            values = [f"{it} = {({**study.fixed, **point})[it]}" for it in sorted(source.names())]
+            where = f", where {', '.join(values)}" if values else ""
+            what = f"{source.source}: {str(fault).removeprefix(start)}{where}"
+            raise StudyFault(f"programs.{source.name}", what) from None

@@ -28,8 +28,9 @@ class StudyFault(Exception):
 
 @dataclass(frozen=True)
 class Line:
-    """One set of lines in a plot: a line for each choice of the columns `by`."""
+    """One set of lines in a plot: a line for each choice of the columns `by`. Its key is where the file has it."""
 
+    key: str
     y: str
     by: tuple
     label: str
@@ -39,6 +40,7 @@ class Line:
 
 @dataclass(frozen=True)
 class Plot:
+    key: str
     name: str
     title: str
     x: str
@@ -208,7 +210,7 @@ def line_of(raw, key):
     need(isinstance(dashed, bool), f"{key}.dashed", "must be true or false")
     y = text(raw, "y", f"{key}.y")
     label = text(raw, "label", f"{key}.label", ", ".join(f"{it} {{{it}}}" for it in by) or y)
-    return Line(y, tuple(by), label, where, dashed)
+    return Line(key, y, tuple(by), label, where, dashed)
 
 
 def plot_of(raw, number):
@@ -226,7 +228,7 @@ def plot_of(raw, number):
     need(name.isidentifier(), f"{key}.name", "must be a name")
     x = text(raw, "x", f"{key}.x")
     return Plot(
-        name, text(raw, "title", f"{key}.title"), x, text(raw, "x_label", f"{key}.x_label", x),
+        key, name, text(raw, "title", f"{key}.title"), x, text(raw, "x_label", f"{key}.x_label", x),
         text(raw, "y_label", f"{key}.y_label", found[0].y), log, tuple(found),
     )
 

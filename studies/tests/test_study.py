@@ -389,7 +389,7 @@ class Plots(InFolder):
     def drawn(self, plot):
         asked = study_of((SMALL + plot).encode())
         answers = [{"job": "0", "pes": str(2**it["stages"]), "answered": "7"} for it in asked.points()]
-        return asked.plots[0], lines_of(asked.plots[0], 0, joined(asked, asked.points(), answers))
+        return asked.plots[0], lines_of(asked.plots[0], joined(asked, asked.points(), answers))
 
     def test_lines(self):
         _, lines = self.drawn(self.PLOT)
@@ -397,9 +397,9 @@ class Plots(InFolder):
         self.assertEqual(found, [("wait_places 0", ("0",), False, [(2, 7), (4, 7)]), ("wait_places 4", ("4",), False, [(2, 7), (4, 7)])])
 
     def test_lines_with_labels(self):
-        line = '[[plot]]\ntitle = "t"\nx = "pes"\n[[plot.line]]\ny = "answered"\nby = ["program", "wait_places"]\nlabel = "{program} {x}"\ndashed = true\n'
+        line = '[[plot]]\ntitle = "t"\nx = "pes"\n[[plot.line]]\ny = "answered"\nby = ["program", "wait_places"]\nlabel = "{program} {pes}-"\ndashed = true\n'
         _, lines = self.drawn(line)
-        self.assertEqual([(it.label, it.is_dashed) for it in lines], [("short {x}", True), ("long {x}", True)] * 2)
+        self.assertEqual([(it.label, it.is_dashed) for it in lines], [("short 2-", True), ("long 2-", True)] * 2)
 
     def test_colors(self):
         solid, dashed = (Drawn("", it, False, []) for it in "ab"), (Drawn("", it, True, []) for it in "bc")
@@ -421,10 +421,10 @@ class Plots(InFolder):
             with self.assertRaisesRegex(StudyFault, rf"^plot\[0\]: the column {column} isn't numbers$"):
                 self.drawn(self.PLOT.replace(old, new))
         plot = study_of((SMALL + '[[plot]]\ntitle = "t"\nx = "a"\ny = "b"\n').encode()).plots[0]
-        self.assertEqual(lines_of(plot, 0, [{"a": "2", "b": "1.5"}, {"a": "1", "b": "3"}])[0].points, [(1, 3), (2, 1.5)])
+        self.assertEqual(lines_of(plot, [{"a": "2", "b": "1.5"}, {"a": "1", "b": "3"}])[0].points, [(1, 3), (2, 1.5)])
         for other in ("long", "1" + "0" * 400, "inf", "nan"):
             with self.assertRaisesRegex(StudyFault, r"^plot\[0\]: the column a isn't numbers$"):
-                lines_of(plot, 0, [{"a": "2", "b": "1.5"}, {"a": other, "b": "3"}])
+                lines_of(plot, [{"a": "2", "b": "1.5"}, {"a": other, "b": "3"}])
 
     def test_a_gnuplot_that_fails_leaves_no_picture(self):
         self.catch_interrupts()
@@ -560,8 +560,6 @@ class Refusals(InFolder):
             ('where = "open > 1"' + SMALL, "where: there is no column open"),
             ('where = "stages > 2"' + SMALL, "where: leaves no point"),
             (SMALL + '[columns]\na = "print(1)"\n', "columns.a: may only have names, numbers, texts, + - * / // %, comparisons, and, or, not"),
-            (SMALL + '[columns]\na = "none + 1"\n', "columns.a: there is no column none"),
-            (SMALL + '[columns]\npes = "to"\n', "columns.pes: is a column already"),
         ):
             self.assertEqual(self.refusal(text), fault)
 
@@ -576,14 +574,43 @@ class Refusals(InFolder):
             (plot + 'x = "pes"\ny = "to"\nby = "pes"\n', "plot[0].by: must be a list of columns"),
             (plot + 'x = "pes"\ny = "to"\nname = "a/b"\n', "plot[0].name: must be a name"),
             (plot + 'x = "pes"\ny = "to"\ncolor = 1\n', "plot[0].color: unknown key"),
-            (plot + 'x = "pes"\ny = "none"\n', "plot[0]: there is no column none"),
+            (plot + 'x = "program"\ny = "to"\nby = ["stages", "wait_places"]\n', "plot[0]: the column program isn't numbers"),
             (plot + 'x = "pes"\n[[plot.line]]\ny = "to"\nwidth = 1\n', "plot[0].line[0].width: unknown key"),
             (plot + 'x = "pes"\n[[plot.line]]\ny = "to"\ndashed = 1\n', "plot[0].line[0].dashed: must be true or false"),
             (plot + same + 'name = "p"\n[[plot]]\ntitle = "t"\nname = "p"\n' + same, "plot[1].name: is that of another plot"),
             (plot + same + 'name = "plot_1"\n[[plot]]\ntitle = "t"\n' + same, "plot[1].name: is that of another plot"),
-            (plot + 'x = "program"\ny = "to"\nby = ["stages", "wait_places"]\n', "plot[0]: the column program isn't numbers"),
         ):
             self.assertEqual(self.refusal(text), fault)
+
+    def test_names_are_checked_before_anything_runs(self):
+        plot = SMALL + '[[plot]]\ntitle = "t"\n'
+        line = plot + 'x = "pes"\ny = "to"\n[[plot.line]]\ny = "to"\n'
+        for text, fault in (
+            (plot + 'x = "none"\ny = "to"\n', "plot[0].x: there is no column none"),
+            (plot + 'x = "pes"\ny = "none"\n', "plot[0].y: there is no column none"),
+            (plot + 'x = "pes"\ny = "to"\nby = ["none"]\n', "plot[0].by: there is no column none"),
+            (plot + 'x = "pes"\ny = "to"\nwhere = "none > 1"\n', "plot[0].where: there is no column none"),
+            (plot + 'x = "pes"\ny = "to"\nlabel = "of {none}"\n', "plot[0].label: there is no column none"),
+            (line.replace('line]]\ny = "to"', 'line]]\ny = "none"'), "plot[0].line[0].y: there is no column none"),
+            (line + 'where = "none > 1"\n', "plot[0].line[0].where: there is no column none"),
+            (line + 'label = "{none}"\n', "plot[0].line[0].label: there is no column none"),
+            (SMALL + '[columns]\na = "none + 1"\n', "columns.a: there is no column none"),
+            (SMALL + '[columns]\na = "b"\nb = "to"\n', "columns.a: there is no column b"),
+            (SMALL + '[columns]\nhot_answered = "to"\na = "other_answered"\n', "columns.a: there is no column other_answered"),
+            ("hot_cells = [0]\n" + SMALL + '[columns]\nhot_answered = "to"\n', "columns.hot_answered: is a column already"),
+            (SMALL + '[columns]\npes = "to"\n', "columns.pes: is a column already"),
+            (SMALL.replace("wait_places", "answered"), "vary.answered: is a column already"),
+        ):
+            self.assertEqual(self.refusal(text), fault)
+            self.assertEqual(self.sweeps(), [])
+
+    def test_a_program_that_is_refused(self):
+        (self.folder / "short.s").write_text("halt\n\nfrobnicate r1\n")
+        self.assertEqual(self.refusal(SMALL), "programs.short: short.s: line 3: unknown word")
+        (self.folder / "short.s").write_text("halt\nli r1 $rounds\n$op r1\n")
+        fault = "programs.short: short.s: line 3: unknown word, where op = frobnicate, rounds = 5"
+        self.assertEqual(self.refusal(SMALL.replace("[programs]", 'op = ["faa", "frobnicate"]\n[programs]') + "[fixed]\nrounds = 5\n"), fault)
+        self.assertEqual(self.sweeps(), [])
 
     def test_arguments(self):
         for arguments, fault in (
