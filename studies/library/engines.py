@@ -10,7 +10,7 @@ import threading
 import time
 from pathlib import Path
 
-from library.pieces import answer, write
+from library.pieces import is_answered, write
 
 SCRIPT = Path(__file__).resolve().parent.parent / "piece"
 MOST_TASKS = 1000  # Slurm's own limit on an array is 1001 unless it is configured otherwise
@@ -60,9 +60,9 @@ def run_engine(words, folder, log, pieces, progress):
     has_ended = False
     while not has_ended:
         has_ended = engine.poll() is not None
-        for it in [it for it in waiting if answer(folder, it) is not None]:
+        for it in [it for it in waiting if is_answered(folder, it)]:
             waiting.remove(it)
-            progress.add(it.jobs)
+            progress.add(len(it.jobs))
         if not has_ended:
             time.sleep(BETWEEN_LOOKS)
     if engine.returncode:
@@ -76,7 +76,7 @@ def run_local(folder, pieces, ultra, hot_cells, workers, arguments, progress):
         if ran.returncode:
             lines = ran.stderr.strip().splitlines() or [f"jobs/{piece.name}.toml: ended with status {ran.returncode}"]
             raise EngineFault(lines[-1].removeprefix("study: "))
-        progress.add(piece.jobs)
+        progress.add(len(piece.jobs))
 
     if arguments:
         raise EngineFault("--engine-args is for parallel and slurm")

@@ -1,4 +1,8 @@
-"""Points as files of jobs that are named by their content, and the answers to each of them."""
+"""Points as jobs, and the answers to them. A *piece* is a file of jobs that is named by its content.
+
+A job is the paths of its settings and of its program, which are named by their content too. So an answer counts
+whatever file its job was in.
+"""
 
 import csv
 import hashlib
@@ -6,6 +10,7 @@ import io
 import os
 import subprocess
 import tempfile
+import tomllib
 from dataclasses import dataclass
 from pathlib import Path
 
@@ -19,10 +24,10 @@ class PieceFault(Exception):
 
 @dataclass(frozen=True)
 class Piece:
-    """A file of jobs: its name, and how many jobs it has."""
+    """A file of jobs: its name, and its jobs."""
 
     name: str
-    jobs: int
+    jobs: list
 
 
 def digest(text):
@@ -64,24 +69,31 @@ def stored(folder, kind, ending, text):
     return path
 
 
+def jobs_of(folder, machines):
+    """Writes the settings and the programs of machines, pairs of texts. Each gives a job; some may be the same."""
+    return [(stored(folder, "settings", "toml", conf), stored(folder, "programs", "s", prog)) for conf, prog in machines]
+
+
 def jobs_text(jobs):
     return "\n".join(f'[[job]]\nconf = "{conf}"\nprog = "{prog}"\n' for conf, prog in jobs)
 
 
-def pieces_of(folder, machines, size, hot_cells, simulator):
-    """Writes settings, programs and files of jobs, each of at most `size` jobs. `machines` are pairs of texts.
+def question(hot_cells, simulator):
+    """A name for what is asked of each job, and of which simulator: answers to another question don't count."""
+    return digest(f"hot cells {hot_cells} {simulator}")[:16]
 
-    The name of a piece is a digest of all that its answer depends on. `simulator` is that of the program.
-    """
-    jobs = [(stored(folder, "settings", "toml", conf), stored(folder, "programs", "s", prog)) for conf, prog in machines]
+
+def pieces_of(folder, jobs, size, asked):
+    """Writes files of at most `size` jobs for a question."""
     pieces = []
     for start in range(0, len(jobs), size):
-        text = jobs_text(jobs[start:start + size])
-        name = digest(text + f"hot cells {hot_cells} {simulator}")[:16]
+        part = jobs[start:start + size]
+        text = jobs_text(part)
+        name = f"{asked}/{digest(text)[:16]}"
         path = folder / "jobs" / f"{name}.toml"
         if not path.is_file() or path.read_text() != text:
             write(path, text)
-        pieces.append(Piece(name, len(jobs[start:start + size])))
+        pieces.append(Piece(name, part))
     return pieces
 
 
@@ -89,17 +101,28 @@ def answer_path(folder, name):
     return folder / "answers" / f"{name}.csv"
 
 
-def answer(folder, piece):
-    """The rows of a piece that was answered, each a dict. None if its file is missing, broken or half-written."""
+def rows_in(path):
+    """The answers in a file: a row for each job. Empty if the file is missing, broken or half-written."""
     try:
-        text = answer_path(folder, piece.name).read_text()
+        text = path.read_text()
     except (OSError, UnicodeDecodeError):
-        return None
+        return {}
     body, end, last = text.rpartition("complete,")
     if not end or last != digest(body) + "\n":
-        return None
-    rows = list(csv.DictReader(io.StringIO(body)))
-    return rows if [it["job"] for it in rows] == [str(it) for it in range(piece.jobs)] else None
+        return {}
+    return {(it.pop("conf"), it.pop("prog")): it for it in csv.DictReader(io.StringIO(body))}
+
+
+def answers(folder, asked):
+    """All answers to a question that are there as a whole, by their jobs."""
+    found = {}
+    for path in sorted((folder / "answers" / asked).glob("*.csv")):
+        found |= rows_in(path)
+    return found
+
+
+def is_answered(folder, piece):
+    return set(piece.jobs) <= set(rows_in(answer_path(folder, piece.name)))
 
 
 def output_of(ultra, arguments, folder):
@@ -132,13 +155,15 @@ def latencies(ultra, folder, conf, prog, hot_cells):
 
 def run_piece(folder, name, ultra, hot_cells, workers):
     """Runs a file of jobs and stores its answers."""
-    jobs = Path("jobs") / f"{name}.toml"
+    path = Path("jobs") / f"{name}.toml"
+    jobs = [(it["conf"], it["prog"]) for it in tomllib.loads((folder / path).read_text())["job"]]
     sizes = ["--workers", str(workers), "--at-once", str(workers)]
-    rows = list(csv.DictReader(io.StringIO(output_of(ultra, ["sweep", str(jobs), *sizes, "--measure"], folder))))
-    if hot_cells:
-        paths = [it.split('"')[1] for it in (folder / jobs).read_text().splitlines() if '"' in it]
-        for row, conf, prog in zip(rows, paths[::2], paths[1::2]):
-            row |= latencies(ultra, folder, conf, prog, hot_cells)
+    lines = output_of(ultra, ["sweep", str(path), *sizes, "--measure"], folder)
+    rows = []
+    for (conf, prog), measured in zip(jobs, csv.DictReader(io.StringIO(lines)), strict=True):
+        del measured["job"]
+        more = latencies(ultra, folder, conf, prog, hot_cells) if hot_cells else {}
+        rows.append({"conf": conf, "prog": prog, **measured, **more})
     body = io.StringIO()
     table = csv.DictWriter(body, list(rows[0]), lineterminator="\n")
     table.writeheader()

@@ -48,7 +48,7 @@ def joined(study, points, answers):
     rows = []
     for point, measured in zip(points, answers, strict=True):
         row = {name: shown(it) for name, it in point.items()}
-        row |= {name: it for name, it in measured.items() if name not in row and name != "job"}
+        row |= {name: it for name, it in measured.items() if name not in row}
         for name, formula in study.columns.items():
             value = formula.value({it: number(row[it]) for it in formula.names})
             row[name] = shown(int(value) if isinstance(value, bool) else value)

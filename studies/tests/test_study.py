@@ -17,7 +17,9 @@ from pathlib import Path
 from support import STUDIES, script
 
 from library.expressions import Formula, FormulaFault, number
-from library.pieces import Piece, answer, answer_path, digest_of_program, jobs_text, pieces_of, write
+from library.pieces import (
+    Piece, answer_path, digest_of_program, is_answered, jobs_of, jobs_text, pieces_of, question, rows_in, write,
+)
 from library.plots import COLORS, Drawn, lines_of, looks, script as gnuplot_script
 from library.study_file import StudyFault, study_of
 from library.table import joined
@@ -85,6 +87,9 @@ class InFolder(unittest.TestCase):
 
     def table(self):
         return (self.folder / "out" / "results.csv").read_text().splitlines()
+
+    def answer_files(self):
+        return sorted((self.folder / "out").glob("answers/*/*.csv"))
 
     def sweeps(self):
         return [it for it in self.calls.read_text().splitlines() if it.startswith("sweep")]
@@ -155,7 +160,8 @@ class Names(InFolder):
     MACHINES = [("stages = 1\n", "halt\n"), ("stages = 2\n", "halt\n"), ("stages = 3\n", "halt\n")]
 
     def names(self, machines, size=2, hot_cells=(), simulator="0123"):
-        return [it.name for it in pieces_of(self.folder, machines, size, list(hot_cells), simulator)]
+        asked = question(list(hot_cells), simulator)
+        return [it.name for it in pieces_of(self.folder, jobs_of(self.folder, machines), size, asked)]
 
     def test_they_follow_from_the_content(self):
         names = self.names(self.MACHINES)
@@ -182,17 +188,19 @@ class Names(InFolder):
 
     def test_files_of_jobs(self):
         self.names(self.MACHINES * 100, size=256)
-        self.assertEqual(sorted(it.read_text().count("[[job]]") for it in (self.folder / "jobs").iterdir()), [44, 256])
+        self.assertEqual(sorted(it.read_text().count("[[job]]") for it in self.folder.glob("jobs/*/*")), [44, 256])
         self.assertEqual(len(list((self.folder / "settings").iterdir())), 3)
         self.assertEqual(len(list((self.folder / "programs").iterdir())), 1)
         self.assertEqual(jobs_text([("a", "b")]), '[[job]]\nconf = "a"\nprog = "b"\n')
 
     def test_a_changed_file_is_written_again(self):
         self.names(self.MACHINES)
-        for path in self.folder.glob("*/*"):
+        files = [*self.folder.glob("*/*.*"), *self.folder.glob("jobs/*/*")]
+        texts = [it.read_text() for it in files]
+        for path in files:
             path.write_text("broken")
         self.names(self.MACHINES)
-        self.assertEqual({it.read_text() for it in (self.folder / "programs").iterdir()}, {"halt\n"})
+        self.assertEqual([it.read_text() for it in files], texts)
 
 
 class Running(InFolder):
@@ -221,9 +229,30 @@ class Running(InFolder):
         ran = self.study(SMALL, "--jobs", "2")
         self.assertEqual((ran.returncode, self.sweeps(), self.table()), (0, [], table))
         self.assertIn("study: 8 of 8 points are there\n", ran.stderr)
-        next((self.folder / "out" / "answers").iterdir()).unlink()
+        self.answer_files()[0].unlink()
         self.study(SMALL, "--jobs", "2")
         self.assertEqual((len(self.sweeps()), self.table()), (1, table))
+
+    def test_another_number_of_jobs_runs_nothing_again(self):
+        self.study(SMALL, "--jobs", "2")
+        table = self.table()
+        self.assertEqual((self.study(SMALL, "--jobs", "3").returncode, self.sweeps(), self.table()), (0, [], table))
+        self.answer_files()[0].unlink()
+        ran = self.study(SMALL, "--jobs", "8")
+        self.assertIn("study: 6 of 8 points are there\n", ran.stderr)
+        self.assertEqual((len(self.sweeps()), self.table()), (1, table))
+
+    def test_more_points_run_only_what_is_new(self):
+        self.study(SMALL)
+        ran = self.study(SMALL.replace("[0, 4]", "[4, 8, 0]"))
+        self.assertIn("study: 8 of 12 points are there\n", ran.stderr)
+        self.assertEqual([it.split(",")[1] for it in self.table()[1:7:2]], ["4", "8", "0"])
+
+    def test_points_with_the_same_machine_and_program_run_once(self):
+        (self.folder / "long.s").write_text("halt\n")
+        ran = self.study(SMALL)
+        self.assertIn("study: 4 of 4 points, 0 s left\n", ran.stderr)
+        self.assertEqual(self.table()[1:3], ["1,0,short,2,100,5,", "1,0,long,2,100,5,"])
 
     def test_answers_of_another_simulator_do_not_count(self):
         other = Path(shutil.copy(STUDIES / "tests" / "fake_ultra", self.folder / "ultra"))
@@ -248,21 +277,23 @@ class Running(InFolder):
         self.study(SMALL, "--jobs", "2")
         table = self.table()
         for spoil in (lambda it: it[:len(it) // 2], lambda it: it[:-1], lambda it: it.replace("100", "101"), lambda it: "", lambda it: "\0"):
-            path = next((self.folder / "out" / "answers").iterdir())
+            path = self.answer_files()[0]
             path.write_text(spoil(path.read_text()))
             self.study(SMALL, "--jobs", "2")
             self.assertEqual((len(self.sweeps()), self.table()), (1, table))
 
-    def test_an_answer_with_too_few_jobs_is_none(self):
+    def test_a_file_of_answers_has_all_its_jobs(self):
         self.study(SMALL, "--jobs", "2")
-        name = next((self.folder / "out" / "answers").iterdir()).stem
-        self.assertEqual(len(answer(self.folder / "out", Piece(name, 2))), 2)
-        self.assertIsNone(answer(self.folder / "out", Piece(name, 3)))
-        self.assertEqual(answer_path(self.folder, name).name, f"{name}.csv")
+        path = self.answer_files()[0]
+        name, rows = f"{path.parent.name}/{path.stem}", rows_in(path)
+        self.assertEqual(len(rows), 2)
+        self.assertTrue(is_answered(self.folder / "out", Piece(name, list(rows))))
+        self.assertFalse(is_answered(self.folder / "out", Piece(name, [*rows, ("settings/a.toml", "programs/b.s")])))
+        self.assertEqual(answer_path(self.folder, "q/n"), self.folder / "answers" / "q" / "n.csv")
 
     def test_parts_of_dead_runs_are_removed(self):
         self.study(SMALL)
-        part = self.folder / "out" / "answers" / "0123.csv.part"
+        part = self.answer_files()[0].parent / "0123.csv.part"
         part.write_text("job,")
         self.study(SMALL)
         self.assertFalse(part.exists())
@@ -271,7 +302,7 @@ class Running(InFolder):
         self.dies.write_text("")
         ran = self.study(SMALL)
         self.assertEqual(ran.returncode, 1)
-        self.assertRegex(ran.stderr, r"\nstudy: jobs/[0-9a-f]{16}\.toml: ultra: no memory\n$")
+        self.assertRegex(ran.stderr, r"\nstudy: jobs/[0-9a-f]{16}/[0-9a-f]{16}\.toml: ultra: no memory\n$")
         self.dies.unlink()
         self.assertEqual(self.study(SMALL).returncode, 0)
 
@@ -378,7 +409,7 @@ for task in range(int(last) + 1):
         log = self.folder.resolve() / "slurm" / "sbatch_0.log"
         self.assertEqual(ran.stderr.splitlines()[-2:], [
             f"study: sbatch ended with status 3; its messages are in {log}",
-            "study: 4 of 4 files of jobs have no answer: start again to run them",
+            "study: 8 of 8 points have no answer: start again to run them",
         ])
         self.assertEqual(self.by("slurm", "sbatch", self.SBATCH).returncode, 0)
 
@@ -388,7 +419,7 @@ class Plots(InFolder):
 
     def drawn(self, plot):
         asked = study_of((SMALL + plot).encode())
-        answers = [{"job": "0", "pes": str(2**it["stages"]), "answered": "7"} for it in asked.points()]
+        answers = [{"pes": str(2**it["stages"]), "answered": "7"} for it in asked.points()]
         return asked.plots[0], lines_of(asked.plots[0], joined(asked, asked.points(), answers))
 
     def test_lines(self):
