@@ -1,9 +1,11 @@
 """How the files of jobs of a study are run: by this machine, by GNU parallel or by Slurm."""
 
 import concurrent.futures
+import contextlib
 import os
 import re
 import shlex
+import signal
 import subprocess
 import sys
 import threading
@@ -49,41 +51,87 @@ def command_line(folder, name, ultra, hot_cells):
     return " ".join(it if it is name else shlex.quote(it) for it in command(folder, name, ultra, hot_cells))
 
 
+def end(process):
+    """Ends a process and all of its group. GNU parallel ends its jobs at the second request."""
+    for number, seconds in ((signal.SIGTERM, 1), (signal.SIGTERM, 5), (signal.SIGKILL, None)):
+        with contextlib.suppress(ProcessLookupError):
+            os.killpg(process.pid, number)
+        with contextlib.suppress(subprocess.TimeoutExpired):
+            process.wait(seconds)
+
+
 def run_engine(words, folder, log, pieces, progress):
     """Runs an engine, and reports the pieces that are answered meanwhile. Its messages go into the file `log`."""
     waiting = list(pieces)
     with open(log, "w") as messages:
         try:
-            engine = subprocess.Popen(words, cwd=folder, stdin=subprocess.DEVNULL, stdout=messages, stderr=subprocess.STDOUT)
+            engine = subprocess.Popen(
+                words, cwd=folder, stdin=subprocess.DEVNULL, stdout=messages, stderr=subprocess.STDOUT, process_group=0,
+            )
         except FileNotFoundError:
             raise EngineFault(f"there is no command {words[0]}") from None
     has_ended = False
-    while not has_ended:
-        has_ended = engine.poll() is not None
-        for it in [it for it in waiting if is_answered(folder, it)]:
-            waiting.remove(it)
-            progress.add(len(it.jobs))
-        if not has_ended:
-            time.sleep(BETWEEN_LOOKS)
+    try:
+        while not has_ended:
+            has_ended = engine.poll() is not None
+            for it in [it for it in waiting if is_answered(folder, it)]:
+                waiting.remove(it)
+                progress.add(len(it.jobs))
+            if not has_ended:
+                time.sleep(BETWEEN_LOOKS)
+    except BaseException:
+        end(engine)
+        raise
     if engine.returncode:
         print(f"study: {words[0]} ended with status {engine.returncode}; its messages are in {log}", file=sys.stderr)
 
 
+class Local:
+    """The files of jobs that run on this machine. They end with this process, whatever ends it."""
+
+    def __init__(self, folder, ultra, hot_cells, progress):
+        self._folder, self._ultra, self._hot_cells, self._progress = folder, ultra, hot_cells, progress
+        self._running, self._has_ended, self._lock = set(), False, threading.Lock()
+
+    def _start(self, piece):
+        words = [sys.executable, *command(self._folder, piece.name, self._ultra, self._hot_cells), "--until-input-ends"]
+        with self._lock:
+            if self._has_ended:
+                raise EngineFault("interrupted")
+            # its input ends when this process does: nothing is ever written there
+            started = subprocess.Popen(words, stdin=subprocess.PIPE, stderr=subprocess.PIPE, text=True, process_group=0)
+            self._running.add(started)
+        return started
+
+    def run(self, piece):
+        with self._start(piece) as running:
+            messages = running.stderr.read()
+            status = running.wait()
+        self._running.discard(running)
+        if status:
+            lines = messages.strip().splitlines() or [f"jobs/{piece.name}.toml: ended with status {status}"]
+            raise EngineFault(lines[-1].removeprefix("study: "))
+        self._progress.add(len(piece.jobs))
+
+    def end(self):
+        with self._lock:
+            self._has_ended = True
+            for it in list(self._running):
+                it.terminate()
+
+
 def run_local(folder, pieces, ultra, hot_cells, workers, arguments, progress):
     """Runs `workers` files of jobs at once on this machine."""
-    def one(piece):
-        ran = subprocess.run([sys.executable, *command(folder, piece.name, ultra, hot_cells)], stderr=subprocess.PIPE, text=True)
-        if ran.returncode:
-            lines = ran.stderr.strip().splitlines() or [f"jobs/{piece.name}.toml: ended with status {ran.returncode}"]
-            raise EngineFault(lines[-1].removeprefix("study: "))
-        progress.add(len(piece.jobs))
-
     if arguments:
         raise EngineFault("--engine-args is for parallel and slurm")
+    local = Local(folder, ultra, hot_cells, progress)
     with concurrent.futures.ThreadPoolExecutor(workers) as pool:
         try:
-            for it in concurrent.futures.as_completed([pool.submit(one, it) for it in pieces]):
+            for it in concurrent.futures.as_completed([pool.submit(local.run, it) for it in pieces]):
                 it.result()
+        except KeyboardInterrupt:
+            local.end()
+            raise
         finally:
             pool.shutdown(wait=True, cancel_futures=True)
 

@@ -9,6 +9,7 @@ import signal
 import subprocess
 import sys
 import tempfile
+import time
 import unittest
 import unittest.mock
 from collections import namedtuple
@@ -412,6 +413,60 @@ for task in range(int(last) + 1):
             "study: 8 of 8 points have no answer: start again to run them",
         ])
         self.assertEqual(self.by("slurm", "sbatch", self.SBATCH).returncode, 0)
+
+
+class Killed(InFolder):
+    """A study that is killed while two of its files of jobs run."""
+
+    def is_running(self, number):
+        try:
+            state = Path(f"/proc/{number}/stat").read_text().rpartition(")")[2].split()[0]
+        except (FileNotFoundError, ProcessLookupError):
+            return False
+        return state not in "ZX"
+
+    def wait_for(self, holds):
+        end = time.monotonic() + 30
+        while not holds():
+            self.assertLess(time.monotonic(), end)
+            time.sleep(0.02)
+
+    def killed(self, by):
+        """Kills a study, and waits until its simulators have ended. Gives its status and its last line."""
+        asleep = self.folder / f"asleep_{by}"
+        (self.folder / "study.toml").write_text(SMALL)
+        names = {"ULTRA": str(STUDIES / "tests" / "fake_ultra"), "FAKE_CALLS": str(self.calls), "FAKE_DIES": str(self.dies)}
+        running = subprocess.Popen(
+            [STUDIES / "study", "study.toml", "--jobs", "2", "--workers", "2"], cwd=self.folder,
+            env={**os.environ, **names, "FAKE_SLEEPS": str(asleep)}, stderr=subprocess.PIPE, text=True,
+        )
+        self.wait_for(lambda: asleep.exists() and asleep.read_text().count("\n") == 2)
+        simulators = asleep.read_text().split()
+        self.assertTrue(all(map(self.is_running, simulators)))
+        running.send_signal(by)
+        self.wait_for(lambda: not any(map(self.is_running, simulators)))
+        lines = running.communicate()[1].splitlines()
+        self.assertEqual(asleep.read_text().split(), simulators)
+        return running.returncode, lines[-1]
+
+    def test_what_it_started_ends(self):
+        interrupted = 1, "study: interrupted: start again to run the rest"
+        self.assertEqual(self.killed(signal.SIGTERM), interrupted)
+        self.assertEqual(self.killed(signal.SIGKILL), (-signal.SIGKILL, "study: 0 of 8 points are there"))
+
+    def test_an_engine_ends_with_it(self):
+        self.catch_interrupts()
+        numbers = self.folder / "numbers"
+        body = f"""
+child = subprocess.Popen(["sleep", "60"])
+open({str(numbers)!r}, "w").write(f"{{os.getpid()}} {{child.pid}}")
+os.kill(os.getppid(), signal.SIGINT)
+child.wait()
+"""
+        with self.tool("parallel", body):
+            ran = self.study(SMALL, "--with", "parallel")
+        self.assertEqual((ran.returncode, ran.stderr.splitlines()[-1]), (1, "study: interrupted: start again to run the rest"))
+        self.wait_for(lambda: not any(map(self.is_running, numbers.read_text().split())))
 
 
 class Plots(InFolder):
