@@ -1,7 +1,9 @@
 """studies/study and its parts: the grid, names, answers, joining, starting again, plots and each line of an error."""
 
 import contextlib
+import hashlib
 import io
+import json
 import os
 import re
 import shutil
@@ -334,6 +336,43 @@ class Running(InFolder):
         self.assertEqual(self.study(SMALL + "[fixed]\ncells = 2\ninitial = [[0, 5], [3, 4294967295]]\n").returncode, 0)
         settings = {it.read_text() for it in (self.folder / "out" / "settings").iterdir()}
         self.assertIn("stages = 1\nwait_places = 4\ncells = 2\ninitial = [[0, 5], [3, 4294967295]]\n", settings)
+
+    def provenance(self):
+        return json.loads((self.folder / "out" / "provenance.json").read_text())
+
+    def test_provenance(self):
+        self.study(SMALL)
+        found, table = self.provenance(), self.table()
+        out = self.folder / "out"
+
+        def sums(folder, *paths):
+            return {it: hashlib.sha256((folder / it).read_bytes()).hexdigest() for it in paths}
+
+        self.assertRegex(found["date"], r"^\d{4}-\d\d-\d\dT\d\d:\d\d:\d\dZ$")
+        self.assertEqual(found["ultra"]["version"], "ultra fake")
+        self.assertEqual([found["ultra"]["sha256"]], [*sums(STUDIES / "tests", "fake_ultra").values()])
+        self.assertEqual(found["study"] | found["sources"], sums(self.folder, "study.toml", "short.s", "long.s"))
+        self.assertEqual(found["results"], sums(out, "results.csv"))
+        for kind in ("settings", "programs"):
+            self.assertEqual(found[kind], sums(out, *(f"{kind}/{it.name}" for it in (out / kind).iterdir())))
+        self.assertEqual((len(found["settings"]), len(found["programs"]), found["seeds"]), (4, 2, []))
+        (self.folder / "long.s").write_text("fence\nfence\n")
+        self.study(SMALL)
+        self.assertEqual(self.provenance()["sources"], sums(self.folder, "short.s", "long.s"))
+        self.assertNotEqual(self.provenance()["results"], found["results"])
+        self.assertEqual(self.table()[0], table[0])
+
+    def test_provenance_of_traffic(self):
+        text = 'title = "t"\n[fixed]\nstages = 1\n[traffic]\nrate = [1]\n'
+        for seeds, expected in (("", [1]), ("seed = [3, 5]\n", [3, 5])):
+            self.study(text + seeds)
+            self.assertEqual((self.provenance()["seeds"], self.provenance()["sources"]), (expected, {}))
+
+    def test_a_table_without_its_provenance_is_not_whole(self):
+        self.study(SMALL)
+        with unittest.mock.patch.object(study, "write_table", side_effect=KeyboardInterrupt):
+            self.study(SMALL)
+        self.assertFalse((self.folder / "out" / "provenance.json").exists())
 
     def test_where_it_is_written(self):
         self.study(SMALL, "--out", "elsewhere")
