@@ -15,12 +15,18 @@ SIZES = {"svg": "svg size 900,560 font 'DejaVu Sans,14' background 'white'", "pn
 
 @dataclass(frozen=True)
 class Drawn:
-    """A line of a plot: its label, the values of its columns `by`, and its points from left to right."""
+    """A line of a plot: its label, the values of its columns `by`, and its points from left to right.
+
+    A point is x and y, and with error bars the half width of the interval of y.
+    """
 
     label: str
     group: tuple
     is_dashed: bool
     points: list
+
+    def has_bars(self):
+        return any(len(it) > 2 for it in self.points)
 
 
 NAME_IN_LABEL = re.compile(r"\{(\w+)\}")
@@ -51,11 +57,14 @@ def number_in(row, column, key):
     return value
 
 
-def points_of(rows, x, y, key):
-    """The points of a line from left to right."""
-    points = sorted((number_in(it, x, key), number_in(it, y, key)) for it in rows if it[x] and it[y])
-    if len({place for place, _ in points}) < len(points):
-        raise StudyFault(f"{key}.by", f"a line has two points with the same {x}")
+def points_of(rows, x, line):
+    """The points of a line from left to right. A solid line has error bars where the table has an interval."""
+    columns = [x, line.y]
+    if f"{line.y}_ci" in rows[0] and not line.is_dashed:
+        columns.append(f"{line.y}_ci")
+    points = sorted(tuple(number_in(it, column, line.key) for column in columns) for it in rows if it[x] and it[line.y])
+    if len({it[0] for it in points}) < len(points):
+        raise StudyFault(f"{line.key}.by", f"a line has two points with the same {x}")
     return points
 
 
@@ -68,7 +77,7 @@ def lines_of(plot, rows):
             if line.where is None or line.where.value({it: number(row[it]) for it in line.where.names}):
                 groups.setdefault(tuple(row[it] for it in line.by), []).append(row)
         for group, chosen in groups.items():
-            points = points_of(chosen, plot.x, line.y, line.key)
+            points = points_of(chosen, plot.x, line)
             if points:
                 found.append(Drawn(label_of(line.label, chosen[0]), group, line.is_dashed, points))
     if not found:
@@ -90,12 +99,13 @@ def looks(lines):
             yield f"with lines lc rgb '{color}' lw 2 dt 2"
         else:
             place = solid.index(line)
-            yield f"with linespoints lc rgb '{COLORS[place % len(COLORS)]}' lw 2 pt {POINTS[place % len(POINTS)]} ps 0.9"
+            kind = "yerrorlines" if line.has_bars() else "linespoints"
+            yield f"with {kind} lc rgb '{COLORS[place % len(COLORS)]}' lw 2 pt {POINTS[place % len(POINTS)]} ps 0.9"
 
 
 def axes(plot, lines):
     """The ranges and marks of the axes."""
-    values = sorted({x for line in lines for x, _ in line.points})
+    values = sorted({point[0] for line in lines for point in line.points})
     text = ["set logscale y 10" if "y" in plot.log else "set yrange [0:*]\nset offsets 0, 0, graph 0.04, 0"]
     if "x" in plot.log:
         text.append(f"set logscale x 2\nset xrange [{values[0] * 0.95}:{values[-1] * 1.05}]")
@@ -109,13 +119,15 @@ def script(plot, lines, name):
     """The gnuplot script that draws the lines into NAME.svg and NAME.png."""
     text = []
     for index, line in enumerate(lines):
-        text.append(f"$line{index} << END\n" + "".join(f"{x} {y}\n" for x, y in line.points) + "END")
+        text.append(f"$line{index} << END\n" + "".join(" ".join(map(str, it)) + "\n" for it in line.points) + "END")
     text += [
         f"set title {quoted(plot.title)} noenhanced", f"set xlabel {quoted(plot.x_label)} noenhanced",
         f"set ylabel {quoted(plot.y_label)} noenhanced", "set grid lt 1 lw 1 lc rgb '#dddddd'", "set border 3",
         "set tics nomirror", "set key below noenhanced Left reverse spacing 1.2 maxcols 2 width 2", *axes(plot, lines),
     ]
-    parts = [f"$line{index} using 1:2 {look} title {quoted(line.label)}" for index, (line, look) in enumerate(zip(lines, looks(lines)))]
+    parts = []
+    for index, (line, look) in enumerate(zip(lines, looks(lines))):
+        parts.append(f"$line{index} using {'1:2:3' if line.has_bars() else '1:2'} {look} title {quoted(line.label)}")
     for ending, terminal in SIZES.items():
         text.append(f"set terminal {terminal}\nset output {quoted(f'{name}.{ending}')}")
         text.append("plot " + ", \\\n    ".join(parts))

@@ -67,8 +67,10 @@ def check_names(study, sources):
     for source in sources.values():
         for name, line in source.names().items():
             used.add(name)
-            if name not in study.axes and name not in study.fixed:
+            if name not in study.axes and name not in study.fixed and (name != "seed" or not study.seeds):
                 raise source.fault(line, f"${name} is neither varied nor fixed")
+    if study.seeds and sources and "seed" not in used:
+        raise StudyFault("seeds", "no program has $seed")
     for table in ("fixed", "vary"):
         for name in study.parameters[table]:
             if name not in used:

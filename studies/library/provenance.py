@@ -18,8 +18,8 @@ def files_of(folder, paths):
 
 
 def seeds_of(study):
-    """The seeds of the traffic. That of traffic for which none is asked is 1."""
-    return study.axes.get("seed", [1] if "rate" in study.axes or "think" in study.axes else [])
+    """The seeds of the runs. That of traffic for which none is asked is 1."""
+    return study.seeds or study.axes.get("seed", [1] if "rate" in study.axes or "think" in study.axes else [])
 
 
 def provenance(study, name, given, ultra, beside, folder, jobs):

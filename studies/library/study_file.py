@@ -14,7 +14,8 @@ SETTINGS = {
 TRAFFIC = ("pattern", "rate", "think", "operation", "hot", "spread", "burst", "seed")
 LOAD_NAMES = ("pattern", "operation")
 LOAD_MEANS = ("rate", "think", "burst")  # these may have a fraction
-TOP = ("title", "programs", "traffic", "fixed", "vary", "where", "hot_cells", "columns", "plot")
+TOP = ("title", "programs", "traffic", "fixed", "vary", "where", "seeds", "hot_cells", "columns", "plot")
+MOST_SEEDS = 100
 PLOT = ("name", "title", "x", "y", "by", "label", "where", "x_label", "y_label", "log", "dashed", "line")
 LINE = ("y", "by", "label", "where", "dashed")
 
@@ -59,6 +60,7 @@ class Study:
     initial: list  # pairs of a cell and its value at the start
     programs: dict  # the source of each program: a file, or the arguments of `ultra lib`
     hot_cells: list
+    seeds: list = field(default_factory=list)  # those with which each point is run; empty where it is run once
     where: Formula | None = None
     columns: dict = field(default_factory=dict)
     plots: list = field(default_factory=list)
@@ -68,6 +70,10 @@ class Study:
         names = list(self.axes)
         grid = (dict(zip(names, it)) for it in itertools.product(*self.axes.values()))
         return [it for it in grid if self.where is None or self.where.value(it)]
+
+    def runs(self, points):
+        """The points, each with all seeds in turn."""
+        return [{**point, "seed": it} for point in points for it in self.seeds] if self.seeds else points
 
 
 def need(holds, key, fault):
@@ -202,6 +208,16 @@ def hot_cells_of(raw):
     return cells
 
 
+def seeds_of(raw, axes, fixed):
+    """The seeds with which each point is run: 1 to K, or none where `seeds` isn't there."""
+    if "seeds" not in raw:
+        return []
+    count = raw["seeds"]
+    need(type(count) is int and 2 <= count <= MOST_SEEDS, "seeds", f"must be 2 to {MOST_SEEDS}")
+    need("seed" not in axes and "seed" not in fixed, "seeds", "there is a seed too")
+    return list(range(1, count + 1))
+
+
 def line_of(raw, key):
     by = raw.get("by", [])
     need(isinstance(by, list) and all(isinstance(it, str) for it in by), f"{key}.by", "must be a list of columns")
@@ -263,9 +279,10 @@ def study_of(bytes_):
     need(("programs" in raw) != ("traffic" in raw), "programs", "give either programs or traffic")
     programs = programs_of(raw["programs"]) if "programs" in raw else {}
     axes = axes_of(raw, programs)
+    fixed = fixed_of(raw, axes)
     study = Study(
-        title=text(raw, "title", "title"), axes=axes, fixed=fixed_of(raw, axes), programs=programs,
-        parameters=parameters_of(raw), initial=initial_of(raw),
+        title=text(raw, "title", "title"), axes=axes, fixed=fixed, programs=programs,
+        parameters=parameters_of(raw), initial=initial_of(raw), seeds=seeds_of(raw, axes, fixed),
         hot_cells=hot_cells_of(raw), columns=columns_of(raw),
         where=formula(raw["where"], "where", axes) if "where" in raw else None,
         plots=plots_of(raw),

@@ -20,6 +20,7 @@ from pathlib import Path
 from support import STUDIES, script
 
 from library.expressions import Formula, FormulaFault, number
+from library.intervals import student, summary
 from library.pieces import (
     Piece, answer_path, digest_of_program, is_answered, jobs_of, jobs_text, pieces_of, question, rows_in, write,
 )
@@ -157,6 +158,24 @@ class Formulas(unittest.TestCase):
 
     def test_numbers(self):
         self.assertEqual([number(it) for it in ("12", "1.5", "", "quiet")], [12, 1.5, None, "quiet"])
+
+
+class Intervals(unittest.TestCase):
+    def test_student(self):
+        # 95 % on both sides, as printed tables have it
+        for freedom, t in (
+            (1, 12.706), (2, 4.303), (3, 3.182), (4, 2.776), (5, 2.571), (9, 2.262), (10, 2.228), (19, 2.093), (30, 2.042), (60, 2.000),
+        ):
+            self.assertAlmostEqual(student(freedom), t, delta=0.0005)
+
+    def test_summary(self):
+        # the variance is 10, so the half width is 2.776 * (10 / 5) ** 0.5
+        mean, least, greatest, width = summary([3, 5, 7, 9, 11])
+        self.assertEqual((mean, least, greatest), (7, 3, 11))
+        self.assertAlmostEqual(width, 3.926, delta=0.001)
+        self.assertEqual(summary([4, 4, 4]), [4, 4, 4, 0])
+        self.assertEqual(summary([4, None, 4]), [None] * 4)
+        self.assertEqual(summary([4, "quiet"]), [None] * 4)
 
 
 class Names(InFolder):
@@ -336,6 +355,30 @@ class Running(InFolder):
         self.assertEqual(self.study(SMALL + "[fixed]\ncells = 2\ninitial = [[0, 5], [3, 4294967295]]\n").returncode, 0)
         settings = {it.read_text() for it in (self.folder / "out" / "settings").iterdir()}
         self.assertIn("stages = 1\nwait_places = 4\ncells = 2\ninitial = [[0, 5], [3, 4294967295]]\n", settings)
+
+    # of ten programs nine have 8 bytes and one has 9, so the half width is 2.262 * 0.1
+    SEEDS = 'title = "t"\nseeds = 10\nprograms = ["seed.s"]\n[fixed]\nstages = 1\n[columns]\nbytes = "answered * 2"\nsize = "pes * 3"\n'
+
+    def test_seeds(self):
+        (self.folder / "seed.s").write_text("li r1 $seed\n")
+        self.assertEqual(self.study(self.SEEDS).returncode, 0)
+        head, row = (it.split(",") for it in self.table())
+        self.assertEqual(head[:5], ["program", "stages", "pes", "to", "to_least"])
+        found = dict(zip(head, row))
+        for name, expected in (
+            ("to", ["100.00000", "100", "100", "0.00000"]), ("answered", ["8.10000", "8", "9", "0.22622"]),
+            ("bytes", ["16.20000", "16", "18", "0.45243"]), ("latency_mean", [""] * 4),
+        ):
+            self.assertEqual([found[name], *(found[f"{name}_{it}"] for it in ("least", "greatest", "ci"))], expected)
+        self.assertEqual((len(head), found["size"]), (3 + 4 * 4 + 1, "6"))
+        self.assertEqual(self.provenance()["seeds"], list(range(1, 11)))
+
+    def test_seeds_of_traffic(self):
+        ran = self.study('title = "t"\nseeds = 3\n[fixed]\nstages = 1\n[traffic]\nrate = [5, 6]\n')
+        self.assertIn("study: 6 of 6 points, 0 s left\n", ran.stderr)
+        programs = [it.read_text() for it in (self.folder / "out" / "programs").iterdir()]
+        self.assertEqual(sorted(it.split(" --seed ")[1][0] for it in programs), list("112233"))
+        self.assertEqual([it.split(",")[0] for it in self.table()], ["rate", "5", "6"])
 
     def provenance(self):
         return json.loads((self.folder / "out" / "provenance.json").read_text())
@@ -541,6 +584,15 @@ class Plots(InFolder):
         for it in ("set title 'It''s' noenhanced", "$line1 << END\n2 7\n4 7\nEND\n", "set logscale x 2", "set output 'p.svg'", "set output 'p.png'"):
             self.assertIn(it, text)
 
+    def test_error_bars(self):
+        plot = study_of((SMALL + '[[plot]]\ntitle = "t"\nx = "a"\ny = "b"\n[[plot.line]]\ny = "b"\ndashed = true\n').encode()).plots[0]
+        rows = [{"a": "1", "b": "3.5", "b_ci": "0.25"}, {"a": "2", "b": "4", "b_ci": "0"}]
+        solid, dashed = lines_of(plot, rows)
+        self.assertEqual((solid.points, dashed.points), ([(1, 3.5, 0.25), (2, 4, 0)], [(1, 3.5), (2, 4)]))
+        text = gnuplot_script(plot, [solid, dashed], "p")
+        for it in ("$line0 << END\n1 3.5 0.25\n2 4 0\nEND\n", "$line0 using 1:2:3 with yerrorlines ", "$line1 using 1:2 with lines "):
+            self.assertIn(it, text)
+
     def test_a_column_that_is_not_numbers(self):
         for old, new, column in (('x = "pes"', 'x = "program"', "program"), ('y = "answered"', 'y = "program"', "program")):
             with self.assertRaisesRegex(StudyFault, rf"^plot\[0\]: the column {column} isn't numbers$"):
@@ -647,6 +699,19 @@ class Refusals(InFolder):
             (self.folder / "short.s").write_text(text)
             fault = f"programs.short.s: short.s: line {line}: a $ without a name (a $ alone is written $$)"
             self.assertEqual(self.refusal(whole), fault)
+
+    def test_seeds(self):
+        whole, traffic = self.HEAD + self.PROGRAM + self.FIXED, self.HEAD + self.FIXED + "[traffic]\nrate = [1]\n"
+        for text, fault in (
+            ("seeds = 1\n" + traffic, "seeds: must be 2 to 100"), ("seeds = 101\n" + traffic, "seeds: must be 2 to 100"),
+            ("seeds = true\n" + traffic, "seeds: must be 2 to 100"), ("seeds = 3\n" + traffic + "seed = [1]\n", "seeds: there is a seed too"),
+            ("seeds = 3\n" + whole + "seed = 1\n", "seeds: there is a seed too"), ("seeds = 3\n" + whole, "seeds: no program has $seed"),
+            ("seeds = 3\n" + traffic + '[columns]\na = "to_ci"\n', "columns.a: there is no column to_ci"),
+            ("seeds = 3\n" + traffic + '[columns]\nto_ci = "to"\n', "columns.to_ci: is a column already"),
+            ("seeds = 3\n" + traffic + '[columns]\na_ci = "pes"\na = "to"\n', "columns.a: a_ci is a column already"),
+            ("seeds = 3\n" + traffic + '[[plot]]\ntitle = "t"\nx = "rate_ci"\ny = "to_ci"\n', "plot[0].x: there is no column rate_ci"),
+        ):
+            self.assertEqual(self.refusal(text), fault)
 
     def test_initial(self):
         whole = self.HEAD + self.PROGRAM + self.FIXED
