@@ -89,7 +89,7 @@ def pieces_of(folder, jobs, size, asked):
     for start in range(0, len(jobs), size):
         part = jobs[start:start + size]
         text = jobs_text(part)
-        name = f"{asked}/{digest(text)[:16]}"
+        name = f"{asked}-{digest(text)[:16]}"
         path = folder / "jobs" / f"{name}.toml"
         if not path.is_file() or path.read_text() != text:
             write(path, text)
@@ -116,7 +116,7 @@ def rows_in(path):
 def answers(folder, asked):
     """All answers to a question that are there as a whole, by their jobs."""
     found = {}
-    for path in sorted((folder / "answers" / asked).glob("*.csv")):
+    for path in sorted((folder / "answers").glob(f"{asked}-*.csv")):
         found |= rows_in(path)
     return found
 

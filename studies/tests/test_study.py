@@ -93,7 +93,7 @@ class InFolder(unittest.TestCase):
         return (self.folder / "out" / "results.csv").read_text().splitlines()
 
     def answer_files(self):
-        return sorted((self.folder / "out").glob("answers/*/*.csv"))
+        return sorted((self.folder / "out").glob("answers/*.csv"))
 
     def sweeps(self):
         return [it for it in self.calls.read_text().splitlines() if it.startswith("sweep")]
@@ -210,14 +210,14 @@ class Names(InFolder):
 
     def test_files_of_jobs(self):
         self.names(self.MACHINES * 100, size=256)
-        self.assertEqual(sorted(it.read_text().count("[[job]]") for it in self.folder.glob("jobs/*/*")), [44, 256])
+        self.assertEqual(sorted(it.read_text().count("[[job]]") for it in self.folder.glob("jobs/*")), [44, 256])
         self.assertEqual(len(list((self.folder / "settings").iterdir())), 3)
         self.assertEqual(len(list((self.folder / "programs").iterdir())), 1)
         self.assertEqual(jobs_text([("a", "b")]), '[[job]]\nconf = "a"\nprog = "b"\n')
 
     def test_a_changed_file_is_written_again(self):
         self.names(self.MACHINES)
-        files = [*self.folder.glob("*/*.*"), *self.folder.glob("jobs/*/*")]
+        files = [*self.folder.glob("*/*.*")]
         texts = [it.read_text() for it in files]
         for path in files:
             path.write_text("broken")
@@ -307,15 +307,15 @@ class Running(InFolder):
     def test_a_file_of_answers_has_all_its_jobs(self):
         self.study(SMALL, "--jobs", "2")
         path = self.answer_files()[0]
-        name, rows = f"{path.parent.name}/{path.stem}", rows_in(path)
+        name, rows = path.stem, rows_in(path)
         self.assertEqual(len(rows), 2)
         self.assertTrue(is_answered(self.folder / "out", Piece(name, list(rows))))
         self.assertFalse(is_answered(self.folder / "out", Piece(name, [*rows, ("settings/a.toml", "programs/b.s")])))
-        self.assertEqual(answer_path(self.folder, "q/n"), self.folder / "answers" / "q" / "n.csv")
+        self.assertEqual(answer_path(self.folder, "q-n"), self.folder / "answers" / "q-n.csv")
 
     def test_parts_of_dead_runs_are_removed(self):
         self.study(SMALL)
-        part = self.answer_files()[0].parent / "0123.csv.part"
+        part = self.folder / "out" / "answers" / "0123.csv.part"
         part.write_text("job,")
         self.study(SMALL)
         self.assertFalse(part.exists())
@@ -324,7 +324,7 @@ class Running(InFolder):
         self.dies.write_text("")
         ran = self.study(SMALL)
         self.assertEqual(ran.returncode, 1)
-        self.assertRegex(ran.stderr, r"\nstudy: jobs/[0-9a-f]{16}/[0-9a-f]{16}\.toml: ultra: no memory\n$")
+        self.assertRegex(ran.stderr, r"\nstudy: jobs/[0-9a-f]{16}-[0-9a-f]{16}\.toml: ultra: no memory\n$")
         self.dies.unlink()
         self.assertEqual(self.study(SMALL).returncode, 0)
 
