@@ -30,8 +30,12 @@ class Piece:
     jobs: list
 
 
+def sum_of(bytes_):
+    return hashlib.sha256(bytes_).hexdigest()
+
+
 def digest(text):
-    return hashlib.sha256(text.encode()).hexdigest()
+    return sum_of(text.encode())
 
 
 def digest_of_program(ultra):
@@ -42,7 +46,7 @@ def digest_of_program(ultra):
     path = Path(ultra).resolve()
     built = path.parent / "crates" / "ultra" / "out" / "ultra"
     try:
-        return hashlib.sha256((built if path.name == "ultra" and built.is_file() else path).read_bytes()).hexdigest()
+        return sum_of((built if path.name == "ultra" and built.is_file() else path).read_bytes())
     except OSError:
         return ""
 

@@ -5,18 +5,19 @@ from dataclasses import dataclass
 from string import Template
 
 from library.load import LoadFault, program
-from library.pieces import PieceFault, output_of, stored
+from library.pieces import PieceFault, output_of, stored, sum_of
 from library.study_file import SETTINGS, TRAFFIC, StudyFault
 
 
 @dataclass(frozen=True)
 class Source:
-    """A program of a study: its name, where it comes from, and its text, which may have names to fill in."""
+    """A program of a study: its name, where it comes from, and its text. That of a file may have names to fill in."""
 
     name: str
     source: str
     text: str
-    has_names: bool
+    is_file: bool
+    sum: str = ""  # of the bytes of the file
 
     def fault(self, line, what):
         return StudyFault(f"programs.{self.name}", f"{self.source}: line {line}: {what}")
@@ -27,7 +28,7 @@ class Source:
     def names(self):
         """The names that are to be filled in, each with its first line. Raises StudyFault."""
         found = {}
-        for it in Template.pattern.finditer(self.text) if self.has_names else ():
+        for it in Template.pattern.finditer(self.text) if self.is_file else ():
             if it["invalid"] is not None:
                 raise self.fault(self.line_of(it.start()), "a $ without a name (a $ alone is written $$)")
             if it["escaped"] is None:
@@ -36,7 +37,7 @@ class Source:
 
     def filled(self, values):
         """The text with these values in place of the names."""
-        return Template(self.text).substitute(values) if self.has_names else self.text
+        return Template(self.text).substitute(values) if self.is_file else self.text
 
 
 def library_text(name, source, ultra):
@@ -55,7 +56,8 @@ def sources_of(study, folder, ultra):
             found[name] = Source(name, source, library_text(name, source, ultra), False)
             continue
         try:
-            found[name] = Source(name, source, (folder / source).read_text(), True)
+            path = folder / source
+            found[name] = Source(name, source, path.read_text(), True, sum_of(path.read_bytes()))
         except (OSError, UnicodeDecodeError):
             raise StudyFault(f"programs.{name}", f"cannot read {source}") from None
     return found
@@ -116,7 +118,7 @@ def check_texts(study, sources, points, machines, folder, ultra):
     checked = set()
     for point, (_, text) in zip(points, machines) if sources else ():
         source = sources[point["program"]]
-        if not source.has_names or text in checked:
+        if not source.is_file or text in checked:
             continue
         checked.add(text)
         path = stored(folder, "programs", "s", text)

@@ -48,8 +48,8 @@ class Draws:
 def pauses_of(draws, references, cycles, bursts):
     """The cycles after each reference without one, all together `cycles`. The last pause isn't 0.
 
-    Without bursts a reference comes with the same probability in each cycle. Of bursts, both the lengths and the
-    pauses between them are drawn so.
+    Without bursts each order of references and pauses is as likely as any other. With bursts this is so of their
+    lengths, and of the pauses between them.
     """
     if not bursts:
         found = [it - 1 for it in draws.parts(cycles + references, references)]
@@ -86,7 +86,7 @@ def entry_lines(draws):
 
 
 def drawn_cells(operation, hot, spread, seed):
-    """The lines that run once and those of each reference, where a PE draws its cells: two texts."""
+    """The lines that run once, and a function for those of each reference, where a PE draws its cells."""
     bound = noted(f"li r7 {hot_bound(WORD, hot)}", "a draw below this number is hot") if hot else f"li r7 {spread - 1}"
 
     def one(number):
