@@ -9,7 +9,11 @@
     class Contents {
         /** `hasText` is false where the picture is so small that text can't be read. */
         constructor(layout, view, isSeen, hasText) {
-            Object.assign(this, { layout, view, isSeen, hasText });
+            this.layout = layout;
+            this.view = view;
+            this.isSeen = isSeen;
+            this.hasText = hasText;
+            /** @type {Element[]} */
             this.drawn = [];
         }
 

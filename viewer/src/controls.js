@@ -2,28 +2,32 @@
 (function (viewer) {
     "use strict";
 
-    const { byId } = viewer;
+    const { byId, fieldOf } = viewer;
     const ZOOM = 1.25;
 
     function onClick(id, act) {
         byId(id).addEventListener("click", act);
     }
 
+    /** Calls with a field each time that a person has changed it. */
+    function onChange(id, act, event = "change") {
+        byId(id).addEventListener(event, () => act(fieldOf(id)));
+    }
+
     function zoomBy(app, factor) {
-        viewer.setScale(app, Math.max(0.08, Math.min(4, app.picture.scale * factor)));
+        viewer.setScale(app.pane, Math.max(0.08, Math.min(4, app.picture.scale * factor)));
     }
 
     function showWhole(app) {
-        viewer.setScale(app, Math.min(2, viewer.wholeScale(app)));
+        viewer.setScale(app.pane, Math.min(2, viewer.wholeScale(app.pane)));
     }
 
     function goToChosenEvent(app, direction) {
-        app.goToEvent(byId("event-sort").value, Number(byId("event-number").value), direction);
+        app.goToEvent(fieldOf("event-sort").value, Number(fieldOf("event-number").value), direction);
     }
 
     function fold(app, isFolded) {
-        app.isFolded = isFolded;
-        byId("folded").checked = isFolded;
+        app.setFolded(isFolded);
         app.show(0);
         app.window.scrollTo(0, 0);
     }
@@ -33,11 +37,11 @@
         onClick("back", () => app.stepBy(-1));
         onClick("play", () => app.player.toggle());
         onClick("forward", () => app.stepBy(1));
-        onClick("last", () => app.goTo(app.trace.count - 1));
-        byId("slider").addEventListener("input", (event) => app.goTo(Number(event.target.value)));
-        byId("cycle").addEventListener("change", (event) => app.goTo(Math.floor(Number(event.target.value) || 0)));
-        byId("speed").addEventListener("change", (event) => {
-            app.player.cyclesPerSecond = Number(event.target.value);
+        onClick("last", () => app.goTo(app.open.last));
+        onChange("slider", (field) => app.goTo(Number(field.value)), "input");
+        onChange("cycle", (field) => app.goTo(Math.floor(Number(field.value) || 0)));
+        onChange("speed", (field) => {
+            app.player.cyclesPerSecond = Number(field.value);
         });
     }
 
@@ -45,19 +49,19 @@
         onClick("smaller", () => zoomBy(app, 1 / ZOOM));
         onClick("larger", () => zoomBy(app, ZOOM));
         onClick("fit", () => showWhole(app));
-        byId("folded").addEventListener("change", (event) => fold(app, event.target.checked));
-        byId("motion").addEventListener("change", (event) => {
-            app.hasMotion = event.target.checked;
+        onChange("folded", (field) => fold(app, field.checked));
+        onChange("motion", (field) => {
+            app.hasMotion = field.checked;
         });
-        byId("texts").addEventListener("change", (event) => showTexts(app, event.target.checked));
+        onChange("texts", (field) => showTexts(app, field.checked));
         connectWindow(app);
     }
 
     /** With the texts hidden the picture has the width of the page. */
     function showTexts(app, isShown) {
-        byId("texts").checked = isShown;
+        fieldOf("texts").checked = isShown;
         byId("side").hidden = !isShown;
-        viewer.chooseScale(app);
+        viewer.chooseScale(app.pane);
     }
 
     /** Draws what comes into sight. */
@@ -65,9 +69,9 @@
         let isWaiting = false;
         const redraw = () => {
             isWaiting = false;
-            if (app.trace) {
+            if (app.open) {
                 app.picture.noteWindow();
-                viewer.draw(app);
+                app.draw();
             }
         };
         const later = () => {
@@ -89,7 +93,7 @@
     /** A click on an entry shows its request, and one on an act its tree. */
     function connectClicks(app) {
         byId("network").addEventListener("click", (event) => {
-            const data = event.target.closest("[data-what]")?.dataset;
+            const data = /** @type {HTMLElement | null} */ (/** @type {Element} */ (event.target).closest("[data-what]"))?.dataset;
             if (!data) {
                 return;
             }
@@ -118,7 +122,7 @@
             ArrowLeft: () => app.stepBy(-1),
             " ": () => app.player.toggle(),
             Home: () => app.goTo(0),
-            End: () => app.goTo(app.trace.count - 1),
+            End: () => app.goTo(app.open.last),
             a: () => app.goToEvent("act", 0, direction),
             c: () => app.goToEvent("combination", 0, direction),
             e: () => goToChosenEvent(app, direction),
@@ -135,7 +139,7 @@
     function connectKeys(app) {
         document.addEventListener("keydown", (event) => {
             const isOfBrowser = event.ctrlKey || event.metaKey || event.altKey;
-            if (!app.trace || isOfBrowser || viewer.isOwnKey(event.target, event.key)) {
+            if (!app.open || isOfBrowser || viewer.isOwnKey(event.target, event.key)) {
                 return;
             }
             const act = actOfKey(app, event);

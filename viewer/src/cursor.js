@@ -11,6 +11,16 @@
             super(`expected ${expected}`);
             this.at = at;
             this.expected = expected;
+            /**
+             * Its line, once that is known.
+             * @type {number | undefined}
+             */
+            this.line = undefined;
+            /** Whether the text was cut off there. */
+            this.isCut = false;
+            /** The cycle, and the line in it, of a fault that the rules of the machine found. */
+            this.cycle = 0;
+            this.lineInCycle = 0;
         }
     }
 

@@ -4,6 +4,19 @@
 
     const SVG = "http://www.w3.org/2000/svg";
 
+    /** The element of the page with an id. */
+    function byId(id) {
+        return document.getElementById(id);
+    }
+
+    /**
+     * A field or a choice of the page with an id.
+     * @returns {HTMLInputElement}
+     */
+    function fieldOf(id) {
+        return /** @type {HTMLInputElement} */ (document.getElementById(id));
+    }
+
     function fill(element, attributes, children) {
         for (const [name, value] of Object.entries(attributes)) {
             if (value !== null && value !== undefined && value !== false) {
@@ -31,5 +44,5 @@
         return button;
     }
 
-    Object.assign(viewer, { html, svg, link });
+    Object.assign(viewer, { byId, fieldOf, html, svg, link });
 })((globalThis.viewer ??= {}));

@@ -3,12 +3,14 @@
 (function (viewer) {
     "use strict";
 
-    const { App, byId } = viewer;
+    const { App, byId, fieldOf } = viewer;
     let openings = 0;
 
     /** The traces that `viewer/page` wrote into the page: their names and texts. */
     function tracesInPage() {
-        return [...document.querySelectorAll("script[type='application/json'][data-trace]")].map((it) => ({
+        /** @type {NodeListOf<HTMLElement>} */
+        const found = document.querySelectorAll("script[type='application/json'][data-trace]");
+        return [...found].map((it) => ({
             name: it.dataset.trace,
             bytes: () => new TextEncoder().encode(JSON.parse(it.textContent)),
         }));
@@ -33,18 +35,18 @@
             return;
         }
         const isNewest = beginOpening();
-        const isSame = !app.trace || app.name === file.name;
+        const isSame = !app.open || app.name === file.name;
         const address = isSame ? viewer.readAddress(location.hash) : {};
-        app.say(`Reading ${file.name} …`);
+        app.screen.say(`Reading ${file.name} …`);
         const complain = (error) => {
             if (isNewest()) {
-                app.say(`${file.name} can't be read: ${error.message}`);
+                app.screen.say(`${file.name} can't be read: ${error.message}`);
             }
         };
         const bytes = await file.arrayBuffer().catch(complain);
         if (bytes && isNewest()) {
             app.isListed = false;
-            app.open(file.name, new Uint8Array(bytes), address);
+            app.openText(file.name, new Uint8Array(bytes), address);
         }
     }
 
@@ -52,14 +54,14 @@
         beginOpening();
         const found = traces.find((it) => it.name === name) ?? traces[0];
         app.isListed = true;
-        byId("traces").value = found.name;
-        app.open(found.name, found.bytes(), address);
+        fieldOf("traces").value = found.name;
+        app.openText(found.name, found.bytes(), address);
     }
 
     function connectFiles(app) {
-        byId("file").addEventListener("change", (event) => {
-            openFile(app, event.target.files[0]);
-            event.target.value = "";
+        byId("file").addEventListener("change", () => {
+            openFile(app, fieldOf("file").files[0]);
+            fieldOf("file").value = "";
         });
         addEventListener("dragover", (event) => {
             event.preventDefault();
@@ -76,22 +78,22 @@
     function connectList(app, traces) {
         byId("trace-choice").hidden = traces.length < 2;
         byId("traces").replaceChildren(...traces.map((it) => viewer.html("option", { value: it.name }, it.name)));
-        byId("traces").addEventListener("change", (event) => openListed(app, traces, event.target.value, {}));
+        byId("traces").addEventListener("change", () => openListed(app, traces, fieldOf("traces").value, {}));
     }
 
     function followAddress(app, traces) {
         const address = viewer.readAddress(location.hash);
-        if (traces.length > 0 && (!app.trace || (address.trace && address.trace !== app.name))) {
+        if (traces.length > 0 && (!app.open || (address.trace && address.trace !== app.name))) {
             openListed(app, traces, address.trace, address);
-        } else if (app.trace) {
+        } else if (app.open) {
             app.goToLink(address);
         }
     }
 
     const app = new App();
     const traces = tracesInPage();
-    viewer.app = app;
     viewer.connect(app);
+    Object.assign(viewer, { app });
     connectFiles(app);
     connectList(app, traces);
     addEventListener("hashchange", () => followAddress(app, traces));

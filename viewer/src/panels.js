@@ -9,13 +9,16 @@
     const MOST_CELLS = 100;
     const MOST_LINES = 400;
 
-    /** A sentence whose parts are texts, requests and acts. */
-    function sentence(parts, app) {
+    /**
+     * A sentence whose parts are texts, requests and acts. `actions` has what a click does, in this
+     * and in all panels: `showRequest`, `showAct`, `goTo` and `showAll`.
+     */
+    function sentence(parts, actions) {
         const children = parts.map((part) => {
             if (typeof part === "string") {
                 return part;
             }
-            const show = part.request ? () => app.showRequest(part.request) : () => app.showAct(part.act);
+            const show = part.request ? () => actions.showRequest(part.request) : () => actions.showAct(part.act);
             return link(part.text, show);
         });
         return html("li", {}, ...children, ".");
@@ -27,21 +30,17 @@
     }
 
     /** A button that shows the rest of all lists, where there is a rest. */
-    function more(rest, app) {
-        const showAll = () => {
-            app.hasAll = true;
-            app.show(0);
-        };
-        return rest > 0 ? [link(`and ${rest} more`, showAll)] : [];
+    function more(rest, actions) {
+        return rest > 0 ? [link(`and ${rest} more`, actions.showAll)] : [];
     }
 
-    function happeningsPanel(element, view, app) {
+    function happeningsPanel(element, view, actions) {
         const sentences = viewer.sentencesOf(view.history, view.cycle, view.step);
-        const shown = app.hasAll ? sentences : sentences.slice(0, MOST_SENTENCES);
-        const items = shown.map((it) => sentence(it, app));
+        const shown = view.hasAll ? sentences : sentences.slice(0, MOST_SENTENCES);
+        const items = shown.map((it) => sentence(it, actions));
         const list = listOr("No message is issued, served, split or answered.", items);
         const moves = html("p", {}, viewer.movesText(view.step));
-        element.replaceChildren(moves, list, ...more(sentences.length - shown.length, app));
+        element.replaceChildren(moves, list, ...more(sentences.length - shown.length, actions));
     }
 
     /**
@@ -55,30 +54,30 @@
         return html("table", { class: name }, html("thead", {}, title), html("tbody", {}, ...body));
     }
 
-    function cycleLink(cycle, app) {
-        return link(`${cycle}`, () => app.goTo(cycle), { "aria-label": `go to cycle ${cycle}` });
+    function cycleLink(cycle, actions) {
+        return link(`${cycle}`, () => actions.goTo(cycle), { "aria-label": `go to cycle ${cycle}` });
     }
 
-    function storyRow(row, app) {
-        const cycles = [cycleLink(row.cycle, app)];
+    function storyRow(row, view, actions) {
+        const cycles = [cycleLink(row.cycle, actions)];
         if (row.until > row.cycle) {
-            cycles.push(" to ", cycleLink(row.until, app));
+            cycles.push(" to ", cycleLink(row.until, actions));
         }
         const said = row.happenings.join("; ");
         const where = row.place === null ? [] : [html("code", {}, `${placeText(row.place)}: ${row.text}`)];
         const between = said && where.length > 0 ? [html("br")] : [];
-        const isNow = app.cycle >= row.cycle && app.cycle <= row.until;
+        const isNow = view.cycle.number >= row.cycle && view.cycle.number <= row.until;
         const attributes = isNow ? { class: "now", "aria-current": "step" } : {};
         return { attributes, columns: [cycles, [said, ...between, ...where]] };
     }
 
-    function requestPanel(element, request, view, app) {
+    function requestPanel(element, request, view, actions) {
         const act = viewer.actOf(request);
         const answer = viewer.answerSentence(view.history, request);
         const served = act
-            ? link(`The act that served it, in cycle ${act.cycle}`, () => app.showAct(act))
+            ? link(`The act that served it, in cycle ${act.cycle}`, () => actions.showAct(act))
             : viewer.noActSentence(view.history);
-        const rows = viewer.storyOf(view.history, request).map((it) => storyRow(it, app));
+        const rows = viewer.storyOf(view.history, request).map((it) => storyRow(it, view, actions));
         element.replaceChildren(
             html("h2", {}, `Request ${nameOf(request)}`),
             html("p", {}, `PE ${request.pe}: ${operationText(request)} on cell ${request.cell}. ${answer}`),
@@ -87,17 +86,17 @@
         );
     }
 
-    function orderRow(entry, app) {
-        const name = link(nameOf(entry.request), () => app.showRequest(entry.request));
+    function orderRow(entry, actions) {
+        const name = link(nameOf(entry.request), () => actions.showRequest(entry.request));
         return { attributes: {}, columns: [[name], [html("code", {}, viewer.orderLine(entry))], [`${entry.now}`]] };
     }
 
-    function actPanel(element, act, app) {
+    function actPanel(element, act, actions) {
         const replies = viewer.replay(act);
-        const tree = new viewer.TreePicture(act, replies, (it) => app.showRequest(it)).element();
+        const tree = new viewer.TreePicture(act, replies, actions.showRequest).element();
         const count = `${replies.length} ${replies.length === 1 ? "request" : "requests"}`;
-        const goTo = link(`Go to cycle ${act.cycle}`, () => app.goTo(act.cycle));
-        const rows = replies.map((it) => orderRow(it, app));
+        const goTo = link(`Go to cycle ${act.cycle}`, () => actions.goTo(act.cycle));
+        const rows = replies.map((it) => orderRow(it, actions));
         element.replaceChildren(
             html("h2", {}, `Act of module ${act.module} in cycle ${act.cycle}`),
             html("p", {}, `${count} for cell ${act.cell}, served at once. `, goTo),
@@ -113,10 +112,11 @@
         return html("li", isNew ? { class: "new" } : {}, mark, ` cell ${cell}: ${value}`);
     }
 
-    function cellsPanel(element, cells, app) {
-        const items = cells.slice(0, app.hasAll ? cells.length : MOST_CELLS).map(cellItem);
-        const list = listOr(viewer.noCellsText(app.history, app.cycle), items, { class: "cells" });
-        element.replaceChildren(list, ...more(cells.length - items.length, app));
+    function cellsPanel(element, view, actions) {
+        const { cells } = view;
+        const items = cells.slice(0, view.hasAll ? cells.length : MOST_CELLS).map(cellItem);
+        const list = listOr(viewer.noCellsText(view.history, view.cycle.number), items, { class: "cells" });
+        element.replaceChildren(list, ...more(cells.length - items.length, actions));
     }
 
     function textPanel(element, trace, cycle) {

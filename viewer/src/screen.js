@@ -1,8 +1,8 @@
-// Brings the page up to date: its picture, its texts, its controls and its address.
+// Brings the page up to date: its texts, its controls and its address.
 (function (viewer) {
     "use strict";
 
-    const { byId } = viewer;
+    const { byId, fieldOf, html, movesText } = viewer;
     const ADDRESS_MILLISECONDS = 200;
     /** So many sentences of a cycle are spoken by a screen reader. */
     const SPOKEN_SENTENCES = 5;
@@ -10,21 +10,6 @@
     function peText(it) {
         const registers = it.registers.map(({ register, value }) => ` r${register}=${value}`).join("");
         return `PE ${it.pe}: ${it.state}, at instruction ${it.counter}${registers}`;
-    }
-
-    /** What a newly opened trace is, and how far it goes. */
-    function showTrace(app) {
-        const { trace } = app;
-        for (const id of ["cycle", "slider"]) {
-            byId(id).max = trace.count - 1;
-        }
-        byId("of").textContent = `of ${trace.count - 1}`;
-        byId("folded").checked = app.isFolded;
-        byId("motion").checked = app.hasMotion;
-        byId("ending-text").textContent = trace.end ? trace.end.pes.map(peText).join("\n") : "";
-        byId("scroller").scrollTo(0, 0);
-        document.title = `${app.name}: trace viewer of ultra`;
-        showFacts(app);
     }
 
     /** Sets a text where it differs: a screen reader may speak it each time that it is set. */
@@ -43,36 +28,9 @@
         return trace.end.isQuiet ? "It ends quiet." : "It ends at its limit on cycles.";
     }
 
-    function showFacts({ name, trace }) {
+    function factsText({ name, trace }) {
         const cycles = `${trace.count} ${trace.count === 1 ? "cycle" : "cycles"}`;
-        setText(byId("facts"), `${name}: ${cycles}, ${trace.net.size} PEs. ${endingText(trace)}`);
-        byId("facts").classList.toggle("cut", trace.cut !== null);
-    }
-
-    /** How far a long trace is worked out. It isn't spoken, since it changes all the time. */
-    function showProgress({ trace, history }) {
-        const part = Math.floor((100 * history.cycles) / trace.count);
-        const far = `Stories, events and cells are worked out up to cycle ${history.cycles} (${part} %).`;
-        byId("progress").textContent = history.isDone ? "" : far;
-    }
-
-    function showPlayer(app) {
-        const { isPlaying } = app.player;
-        const [mark, word] = isPlaying ? ["❚❚", "Pause"] : ["▶", "Play"];
-        byId("play").replaceChildren(viewer.html("span", { "aria-hidden": "true" }, mark), ` ${word}`);
-        byId("announcement").setAttribute("aria-live", isPlaying ? "off" : "polite");
-    }
-
-    function showControls(app) {
-        const { cycle, trace } = app;
-        byId("cycle").value = cycle;
-        byId("slider").value = cycle;
-        byId("slider").setAttribute("aria-valuetext", `cycle ${cycle} of ${trace.count - 1}`);
-        byId("cycle-name").textContent = cycle;
-        const isFirst = cycle === 0;
-        const isLast = cycle === trace.count - 1;
-        [byId("first"), byId("back")].forEach((it) => setDisabled(it, isFirst));
-        [byId("last"), byId("forward")].forEach((it) => setDisabled(it, isLast));
+        return `${name}: ${cycles}, ${trace.net.size} PEs. ${endingText(trace)}`;
     }
 
     /** Marks a button that does nothing. The attribute `disabled` would take the focus from it. */
@@ -99,70 +57,115 @@
         }
     }
 
-    function showTexts(app, view) {
-        viewer.happeningsPanel(byId("happenings"), view, app);
-        viewer.cellsPanel(byId("cells"), view.cells, app);
-        viewer.textPanel(byId("text"), app.trace, app.cycle);
-        const { request, act } = app.selected ?? {};
-        byId("story").hidden = !app.selected;
-        if (request) {
-            viewer.requestPanel(byId("story-text"), request, view, app);
-        } else if (act) {
-            viewer.actPanel(byId("story-text"), act, app);
+    class Screen {
+        /** `actions` has what a click on a text does; `panels.js` says which they are. */
+        constructor(actions) {
+            this.actions = actions;
+            this.addressTimer = null;
         }
-        byId("ending").hidden = app.cycle !== app.trace.count - 1 || !app.trace.end;
-        const sentences = [...byId("happenings").querySelectorAll("li")].map((it) => it.textContent);
-        const spoken = [viewer.movesText(view.step), ...sentences.slice(0, SPOKEN_SENTENCES)];
-        setText(byId("announcement"), `Cycle ${app.cycle}. ${spoken.join(" ")}`);
-    }
 
-    /** Draws what can be seen of the cycle that the page is at. */
-    function draw(app, duration = 0) {
-        const { picture, motion, cycle } = app;
-        const isSelected = (it) => app.isSelected(it, cycle - 1);
-        // entries arrive only when the cycle is stepped to, not when it is drawn again
-        picture.element.classList.toggle("moving", duration > 0);
-        picture.drawContent();
-        motion.show(picture.layout, picture.view.step, duration, isSelected, picture.seen());
-    }
-
-    /**
-     * Shows the cycle that the page is at. With a duration in milliseconds its moves are shown
-     * moving.
-     */
-    function showCycle(app, duration) {
-        const view = app.view();
-        document.body.style.setProperty("--motion", `${duration}ms`);
-        app.picture.show(view);
-        draw(app, duration);
-        showControls(app);
-        keepFocus(() => showTexts(app, view));
-        showAddress(app);
-    }
-
-    /** The next event that is looked for is one of the cell or of the PE of this request. */
-    function chooseEvents(request) {
-        if (request) {
-            byId("event-number").value = byId("event-sort").value === "pe" ? request.pe : request.cell;
+        /** Shows the page without a trace. */
+        close() {
+            this.say("");
+            byId("opened").hidden = true;
+            byId("refusal").hidden = true;
+            byId("facts").textContent = "";
+            byId("progress").textContent = "";
         }
-    }
 
-    function writeAddress(app) {
-        const { cycle, selected, isFolded, isListed, name } = app;
-        const trace = isListed ? name : null;
-        const hash = viewer.writeAddress({ trace, cycle, isFolded, ...selected });
-        history.replaceState(null, "", hash);
-    }
+        refuse(text) {
+            this.close();
+            byId("welcome").hidden = false;
+            byId("refusal").hidden = false;
+            byId("refusal").textContent = text;
+        }
 
-    /** Writes the address soon: browsers refuse a page that changes it very often. */
-    function showAddress(app) {
-        app.addressTimer ??= setTimeout(() => {
-            app.addressTimer = null;
-            if (app.trace) {
-                writeAddress(app);
+        say(text) {
+            byId("notice").hidden = text === "";
+            byId("notice").textContent = text;
+        }
+
+        /** What a newly opened trace is, and how far it goes. */
+        showTrace(open) {
+            const { trace, last } = open;
+            byId("welcome").hidden = true;
+            byId("opened").hidden = false;
+            for (const id of ["cycle", "slider"]) {
+                fieldOf(id).max = `${last}`;
             }
-        }, ADDRESS_MILLISECONDS);
+            byId("of").textContent = `of ${last}`;
+            byId("ending-text").textContent = trace.end ? trace.end.pes.map(peText).join("\n") : "";
+            document.title = `${open.name}: trace viewer of ultra`;
+            setText(byId("facts"), factsText(open));
+            byId("facts").classList.toggle("cut", trace.cut !== null);
+        }
+
+        /** How far a long trace is worked out. It isn't spoken, since it changes all the time. */
+        showProgress({ trace, history }) {
+            const part = Math.floor((100 * history.cycles) / trace.count);
+            const far = `Stories, events and cells are worked out up to cycle ${history.cycles} (${part} %).`;
+            byId("progress").textContent = history.isDone ? "" : far;
+        }
+
+        showPlayer(isPlaying) {
+            const [mark, word] = isPlaying ? ["❚❚", "Pause"] : ["▶", "Play"];
+            byId("play").replaceChildren(html("span", { "aria-hidden": "true" }, mark), ` ${word}`);
+            byId("announcement").setAttribute("aria-live", isPlaying ? "off" : "polite");
+        }
+
+        /** Shows the cycle that a trace is at. */
+        showCycle(open, view) {
+            this.showControls(open);
+            keepFocus(() => this.showTexts(open, view));
+        }
+
+        showControls({ cycle, last }) {
+            fieldOf("cycle").value = cycle;
+            fieldOf("slider").value = cycle;
+            byId("slider").setAttribute("aria-valuetext", `cycle ${cycle} of ${last}`);
+            byId("cycle-name").textContent = cycle;
+            [byId("first"), byId("back")].forEach((it) => setDisabled(it, cycle === 0));
+            [byId("last"), byId("forward")].forEach((it) => setDisabled(it, cycle === last));
+        }
+
+        showTexts({ trace, cycle, last, selected }, view) {
+            const { actions } = this;
+            viewer.happeningsPanel(byId("happenings"), view, actions);
+            viewer.cellsPanel(byId("cells"), view, actions);
+            viewer.textPanel(byId("text"), trace, cycle);
+            byId("story").hidden = !selected;
+            if (selected?.request) {
+                viewer.requestPanel(byId("story-text"), selected.request, view, actions);
+            } else if (selected?.act) {
+                viewer.actPanel(byId("story-text"), selected.act, actions);
+            }
+            byId("ending").hidden = cycle !== last || !trace.end;
+            const sentences = [...byId("happenings").querySelectorAll("li")].map((it) => it.textContent);
+            const spoken = [movesText(view.step), ...sentences.slice(0, SPOKEN_SENTENCES)];
+            setText(byId("announcement"), `Cycle ${cycle}. ${spoken.join(" ")}`);
+        }
+
+        /** The next event that is looked for is one of the cell or of the PE of this request. */
+        chooseEvents(request) {
+            if (request) {
+                fieldOf("event-number").value = fieldOf("event-sort").value === "pe" ? request.pe : request.cell;
+            }
+        }
+
+        /**
+         * Writes the address soon: browsers refuse a page that changes it very often. `hashOf`
+         * gives what it is then, or null where there is nothing to write.
+         */
+        showAddress(hashOf) {
+            this.addressTimer ??= setTimeout(() => {
+                this.addressTimer = null;
+                const hash = hashOf();
+                if (hash !== null) {
+                    history.replaceState(null, "", hash);
+                }
+            }, ADDRESS_MILLISECONDS);
+        }
     }
 
-    Object.assign(viewer, { showTrace, showProgress, showPlayer, showCycle, chooseEvents, draw });
+    Object.assign(viewer, { Screen });
 })((globalThis.viewer ??= {}));

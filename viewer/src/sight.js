@@ -1,4 +1,5 @@
-// Which part of the picture can be seen: its scale, and where it is scrolled to.
+// Which part of a picture can be seen: its scale, and where it is scrolled to. Each call takes the
+// pane of the picture.
 (function (viewer) {
     "use strict";
 
@@ -6,8 +7,8 @@
     const MOST_SCALE = 1.35;
 
     /** Draws the picture at another scale, with the same point of it in the middle. */
-    function setScale(app, scale) {
-        const { window, picture } = app;
+    function setScale(pane, scale) {
+        const { window, picture } = pane;
         const part = scale / picture.scale;
         const x = (window.scrollLeft + window.clientWidth / 2) * part - window.clientWidth / 2;
         const y = (window.scrollTop + window.clientHeight / 2) * part - window.clientHeight / 2;
@@ -15,11 +16,11 @@
         picture.resize();
         window.scrollTo(x, y);
         picture.noteWindow();
-        viewer.draw(app);
+        pane.draw();
     }
 
-    function wholeScale(app) {
-        const { window, picture } = app;
+    function wholeScale(pane) {
+        const { window, picture } = pane;
         const { width, height } = picture.layout;
         return Math.min((window.clientWidth - 4) / width, (window.clientHeight - 4) / height);
     }
@@ -28,8 +29,8 @@
      * The first scale: the whole picture where its text can be read, else as much of it as there is
      * room for.
      */
-    function chooseScale(app) {
-        setScale(app, Math.max(LEAST_SCALE, Math.min(MOST_SCALE, wholeScale(app))));
+    function chooseScale(pane) {
+        setScale(pane, Math.max(LEAST_SCALE, Math.min(MOST_SCALE, wholeScale(pane))));
     }
 
     /** Whether a message or a combination is of the sort that is looked for. */
@@ -38,8 +39,8 @@
     }
 
     /** The boxes in which an event of a sort happened in the cycle that is shown. */
-    function boxesOfEvent(app, sort, number) {
-        const { layout, view } = app.picture;
+    function boxesOfEvent(pane, sort, number) {
+        const { layout, view } = pane.picture;
         const ofSort = (it) => isMeant(it, sort, number);
         const acts = view.cycle.acts.filter((it) => sort === "act" || ofSort(it.request));
         const meetings = view.step?.combinations ?? [];
@@ -58,8 +59,8 @@
      * The boxes to which messages moved in the cycle that is shown, and in which something
      * happened.
      */
-    function boxesOfMoves(app) {
-        const { layout, view } = app.picture;
+    function boxesOfMoves(pane) {
+        const { layout, view } = pane.picture;
         const target = (it) => (it.to === null ? layout.pes.get(it.message.pe) : layout.boxes.get(it.to));
         return [
             ...view.cycle.acts.map((it) => layout.modules.get(it.module)),
@@ -69,34 +70,34 @@
     }
 
     /** Scrolls to the first of the boxes, unless one of them can be seen. */
-    function scrollToOne(app, boxes) {
-        const { part, scale } = app.picture;
+    function scrollToOne(pane, boxes) {
+        const { part, scale } = pane.picture;
         const [x, y, w, h] = [part.x, part.y, part.w, part.h].map((it) => it / scale);
         const isWithin = (least, size, start, length) => least >= start && least + size <= start + length;
         const isInside = (it) => isWithin(it.x, it.w, x, w) && isWithin(it.y, it.h, y, h);
         if (boxes.length > 0 && !boxes.some(isInside)) {
             const [box] = boxes;
-            app.window.scrollTo((box.x + box.w / 2 - w / 2) * scale, (box.y + box.h / 2 - h / 2) * scale);
+            pane.window.scrollTo((box.x + box.w / 2 - w / 2) * scale, (box.y + box.h / 2 - h / 2) * scale);
         }
     }
 
     /** Scrolls to an event of the cycle that is shown, unless one can be seen. */
-    function revealEvent(app, sort, number) {
-        scrollToOne(app, boxesOfEvent(app, sort, number));
+    function revealEvent(pane, sort, number) {
+        scrollToOne(pane, boxesOfEvent(pane, sort, number));
     }
 
     /** Scrolls to the act or the request that is shown, where it is in this cycle. */
-    function revealStory(app) {
-        const { layout } = app.picture;
-        const { request, act } = app.selected ?? {};
-        const where = request && viewer.whereIs(app.trace, request, app.cycle);
+    function revealStory(pane) {
+        const { layout, view } = pane.picture;
+        const { request, selectedAct: act } = view;
+        const where = request && viewer.whereIs(view.trace, request, view.cycle.number);
         const box = act ? layout.modules.get(act.module) : where && layout.boxes.get(where.place);
-        scrollToOne(app, box ? [box] : []);
+        scrollToOne(pane, box ? [box] : []);
     }
 
     /** Scrolls to where something moved in the cycle that is shown, unless that can be seen. */
-    function revealMoves(app) {
-        scrollToOne(app, boxesOfMoves(app));
+    function revealMoves(pane) {
+        scrollToOne(pane, boxesOfMoves(pane));
     }
 
     Object.assign(viewer, { setScale, wholeScale, chooseScale, revealEvent, revealStory, revealMoves });

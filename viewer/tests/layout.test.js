@@ -3,12 +3,7 @@
 
 const test = require("node:test");
 const assert = require("node:assert/strict");
-const path = require("node:path");
-const { viewer, FOLDER, example, textOf, historyOf } = require("./support.js");
-
-for (const script of ["layout", "wires"]) {
-    require(path.join(FOLDER, "src", `${script}.js`));
-}
+const { viewer, example, textOf, historyOf } = require("./support.js");
 
 function overlap(a, b) {
     return a.x < b.x + b.w && b.x < a.x + a.w && a.y < b.y + b.h && b.y < a.y + a.h;

@@ -3,10 +3,7 @@
 
 const test = require("node:test");
 const assert = require("node:assert/strict");
-const path = require("node:path");
-const { viewer, FOLDER } = require("./support.js");
-
-require(path.join(FOLDER, "src", "player.js"));
+const { viewer } = require("./support.js");
 
 test("the player steps until there is no cycle more", async () => {
     let steps = 0;

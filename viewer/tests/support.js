@@ -8,18 +8,13 @@ const { spawnSync } = require("node:child_process");
 const FOLDER = path.join(__dirname, "..");
 const ROOT = path.join(FOLDER, "..");
 const PROGRAM = path.resolve(process.env.ULTRA ?? path.join(ROOT, "crates", "ultra", "out", "ultra"));
-/** The scripts from this one on need a page. */
-const FIRST_OF_PAGE = "cell_style.js";
+require(path.join(FOLDER, "scripts.js"));
+require(path.join(FOLDER, "load.js"));
+const { viewerScripts, scriptOrder } = globalThis;
 
-/** The scripts in the order in which the page loads them, up to those that draw. */
-function scripts() {
-    const page = fs.readFileSync(path.join(FOLDER, "index.html"), "utf8");
-    const all = [...page.matchAll(/<script src="([^"]+)">/g)].map((it) => it[1]);
-    return all.slice(0, all.findIndex((it) => path.basename(it) === FIRST_OF_PAGE));
-}
-
-for (const script of scripts()) {
-    require(path.join(FOLDER, script));
+// `opening` starts the page, so it alone can't be loaded without one
+for (const name of scriptOrder(viewerScripts).filter((it) => it !== "opening")) {
+    require(path.join(FOLDER, "src", `${name}.js`));
 }
 const viewer = globalThis.viewer;
 
@@ -71,4 +66,4 @@ function hasProgram() {
     return fs.existsSync(PROGRAM);
 }
 
-module.exports = { viewer, FOLDER, ROOT, PROGRAM, examples, exampleTraces, example, textOf, ultra, bytesOf, traceOf, historyOf, hasProgram };
+module.exports = { viewer, viewerScripts, scriptOrder, FOLDER, ROOT, PROGRAM, examples, exampleTraces, example, textOf, ultra, bytesOf, traceOf, historyOf, hasProgram };

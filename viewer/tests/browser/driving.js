@@ -108,7 +108,7 @@ module.exports = async (checks) => {
         await tab.evaluate("viewer.app.goTo(2)");
         await tab.press("ArrowRight");
         assert.ok((await tab.evaluate("document.getAnimations().length")) > 0);
-        await tab.evaluate("viewer.draw(viewer.app)");
+        await tab.evaluate("viewer.app.draw()");
         assert.equal(await tab.evaluate("document.getAnimations().length"), 0);
     });
     await checks.checkQuiet("driving", tab);
