@@ -3,7 +3,10 @@
 (function (viewer) {
     "use strict";
 
-    /** `#trace=NAME&cycle=C&request=P.N&act=C.M&view=folded`; what isn't there is undefined. */
+    /** The forms of the picture that an address may name. */
+    const FORMS = ["detail", "folded", "compact"];
+
+    /** `#trace=NAME&cycle=C&request=P.N&act=C.M&view=FORM`; what isn't there is undefined. */
     function readAddress(hash) {
         const found = new URLSearchParams(hash.replace(/^#/, ""));
         const text = (name) => found.get(name) ?? "";
@@ -13,11 +16,11 @@
             cycle: /^\d+$/.test(text("cycle")) ? Number(text("cycle")) : undefined,
             request: numbers("request"),
             act: numbers("act"),
-            isFolded: text("view") === "folded",
+            form: FORMS.includes(text("view")) ? text("view") : undefined,
         };
     }
 
-    function writeAddress({ trace, cycle, request, act, isFolded }) {
+    function writeAddress({ trace, cycle, request, act, form }) {
         const parts = new URLSearchParams();
         if (trace) {
             parts.set("trace", trace);
@@ -29,8 +32,8 @@
         if (act) {
             parts.set("act", `${act.cycle}.${act.module}`);
         }
-        if (isFolded) {
-            parts.set("view", "folded");
+        if (form) {
+            parts.set("view", form);
         }
         return `#${parts}`;
     }

@@ -2,26 +2,33 @@
 (function (viewer) {
     "use strict";
 
-    const { Fault, OpenTrace, Pane, Player, Screen, byId, fieldOf } = viewer;
+    const { Fault, OpenTrace, Pane, Player, Screen, Strip, byId, fieldOf } = viewer;
     const SLICE_MILLISECONDS = 12;
+    const OVERVIEW_MILLISECONDS = 700;
+    /** Machines with so many stages are first shown compact. */
+    const COMPACT_STAGES = 5;
     const STILL_WORKING = "The trace is still being worked out; try again.";
     const CUT_BEFORE = "The text was cut off before this story.";
 
     class App {
         constructor() {
-            this.pane = new Pane(byId("scroller"), byId("network"));
+            this.pane = new Pane(byId("scroller"), byId("network"), byId("compact-network"));
             this.screen = new Screen({
                 showRequest: (request) => this.showRequest(request),
                 showAct: (act) => this.showAct(act),
                 goTo: (cycle) => this.goTo(cycle),
                 showAll: () => this.showAll(),
             });
+            this.strip = new Strip((cycle) => this.goTo(cycle));
+            byId("strips").append(this.strip.element);
+            this.overviewTime = -Infinity;
             this.player = new Player(() => this.stepBy(1), () => this.screen.showPlayer(this.player.isPlaying));
             /** The trace that is open, or null. */
             this.open = null;
             /** Whether the page has the trace in it, so that a link can name it. */
             this.isListed = false;
-            this.isFolded = false;
+            /** The form of the picture: `detail`, `folded` or `compact`. */
+            this.form = "detail";
             this.hasMotion = !matchMedia("(prefers-reduced-motion: reduce)").matches;
             this.hasAll = false;
             fieldOf("motion").checked = this.hasMotion;
@@ -51,6 +58,10 @@
             return this.pane.window;
         }
 
+        get isCompact() {
+            return this.pane.isCompact;
+        }
+
         draw() {
             this.pane.draw();
         }
@@ -69,8 +80,10 @@
             }
             this.address = address;
             this.hasAll = false;
-            this.setFolded(address.isFolded ?? false);
+            this.overviewTime = -Infinity;
+            this.setForm(address.form ?? this.usualForm);
             this.screen.showTrace(this.open);
+            this.showOverview();
             this.window.scrollTo(0, 0);
             this.show(0);
             if (this.open) {
@@ -100,6 +113,7 @@
         /** Works out the history in slices, so that the page answers meanwhile. */
         workOn() {
             this.screen.showProgress(this.open);
+            this.showOverview();
             this.follow(this.address);
             if (!this.open) {
                 return;
@@ -129,9 +143,42 @@
             }
         }
 
-        setFolded(isFolded) {
-            this.isFolded = isFolded;
-            fieldOf("folded").checked = isFolded;
+        /** A machine whose detailed picture doesn't fit the page is first shown compact. */
+        get usualForm() {
+            return this.trace.net.stages >= COMPACT_STAGES ? "compact" : "detail";
+        }
+
+        setForm(form) {
+            this.form = form;
+            fieldOf("folded").checked = form === "folded";
+            fieldOf("compact").checked = form === "compact";
+        }
+
+        /** Shows another form of the picture, from its beginning. */
+        changeForm(form) {
+            const isScaled = this.form !== "compact";
+            this.setForm(form);
+            this.show(0);
+            if (!isScaled) {
+                viewer.chooseScale(this.pane);
+            }
+            this.window.scrollTo(0, 0);
+        }
+
+        /** Shows a list of the compact picture in detail. */
+        showDetail(place) {
+            this.changeForm("detail");
+            viewer.setScale(this.pane, 1);
+            viewer.revealPlace(this.pane, place);
+        }
+
+        /** Draws the overview anew, at most so often while it is worked out. */
+        showOverview() {
+            const now = performance.now();
+            if (this.history.isDone || !(now - this.overviewTime < OVERVIEW_MILLISECONDS)) {
+                this.overviewTime = now;
+                this.strip.show(this.name, this.history.overview, 0, this.trace.count);
+            }
         }
 
         /**
@@ -140,7 +187,7 @@
         goToLink(address) {
             this.address = address;
             this.open.selected = null;
-            this.setFolded(address.isFolded);
+            this.setForm(address.form ?? this.usualForm);
             this.show(0);
             if (this.open) {
                 this.follow(address);
@@ -240,10 +287,11 @@
         /** Shows the cycle. A fault in it is found here where its history isn't worked out yet. */
         show(duration) {
             try {
-                const view = { ...this.open.view(this.isFolded), hasAll: this.hasAll };
+                const view = { ...this.open.view(this.form), hasAll: this.hasAll };
                 document.body.style.setProperty("--motion", `${duration}ms`);
                 this.pane.show(view, duration);
                 this.screen.showCycle(this.open, view);
+                this.strip.goTo(this.cycle, this.cycle < this.history.cycles);
                 this.screen.showAddress(() => this.hash());
             } catch (fault) {
                 this.refuse(this.name, fault);
@@ -257,7 +305,8 @@
             }
             const { name, cycle, selected } = this.open;
             const trace = this.isListed ? name : null;
-            return viewer.writeAddress({ trace, cycle, isFolded: this.isFolded, ...selected });
+            const form = this.form === this.usualForm ? null : this.form;
+            return viewer.writeAddress({ trace, cycle, form, ...selected });
         }
     }
 

@@ -15,10 +15,17 @@
     }
 
     function zoomBy(app, factor) {
+        if (app.form === "compact" && factor > 1) {
+            app.changeForm("detail");
+            return;
+        }
         viewer.setScale(app.pane, Math.max(0.08, Math.min(4, app.picture.scale * factor)));
     }
 
     function showWhole(app) {
+        if (app.form === "compact") {
+            return;
+        }
         viewer.setScale(app.pane, Math.min(2, viewer.wholeScale(app.pane)));
     }
 
@@ -26,10 +33,9 @@
         app.goToEvent(fieldOf("event-sort").value, Number(fieldOf("event-number").value), direction);
     }
 
-    function fold(app, isFolded) {
-        app.setFolded(isFolded);
-        app.show(0);
-        app.window.scrollTo(0, 0);
+    /** Shows a form of the picture, or where that is shown already the detailed one. */
+    function toggleForm(app, form) {
+        app.changeForm(app.form === form ? "detail" : form);
     }
 
     function connectCycles(app) {
@@ -49,7 +55,8 @@
         onClick("smaller", () => zoomBy(app, 1 / ZOOM));
         onClick("larger", () => zoomBy(app, ZOOM));
         onClick("fit", () => showWhole(app));
-        onChange("folded", (field) => fold(app, field.checked));
+        onChange("folded", () => toggleForm(app, "folded"));
+        onChange("compact", () => toggleForm(app, "compact"));
         onChange("motion", (field) => {
             app.hasMotion = field.checked;
         });
@@ -70,8 +77,8 @@
         const redraw = () => {
             isWaiting = false;
             if (app.open) {
-                app.picture.noteWindow();
-                app.draw();
+                app.pane.noteWindow();
+                app.strip.draw();
             }
         };
         const later = () => {
@@ -106,6 +113,12 @@
             }
         });
         onClick("close-story", () => app.closeStory());
+        byId("compact-network").addEventListener("click", (event) => {
+            const place = app.pane.compact.placeAt(event);
+            if (place !== null) {
+                app.showDetail(place);
+            }
+        });
     }
 
     function connectEvents(app) {
@@ -129,7 +142,8 @@
             "+": () => zoomBy(app, ZOOM),
             "-": () => zoomBy(app, 1 / ZOOM),
             0: () => showWhole(app),
-            f: () => fold(app, !app.isFolded),
+            f: () => toggleForm(app, "folded"),
+            o: () => toggleForm(app, "compact"),
             t: () => showTexts(app, byId("side").hidden),
             Escape: () => app.closeStory(),
         };

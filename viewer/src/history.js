@@ -53,6 +53,7 @@
             this.requestsOfPe = Array.from({ length: trace.net.size }, () => []);
             this.cells = new Map();
             this.state = emptyCycle(-1);
+            this.overview = new viewer.Overview(trace.count);
             /** The tree of each request that is on its way to memory, by its identity. */
             this.trees = new Map();
             /** The request of each open cell of a PE. */
@@ -88,6 +89,17 @@
             cycle.faults.forEach(({ pe }) => this.faults.push({ pe, cycle: cycle.number }));
             step.combinations.forEach((it) => this.combine(it, cycle.number));
             step.issues.forEach((it) => this.issue(it.request, cycle.number));
+            this.noteNumbers(cycle, step);
+        }
+
+        noteNumbers(cycle, step) {
+            this.overview.note(cycle.number, {
+                open: this.open.size,
+                combined: step.combinations.length,
+                acts: cycle.acts.length,
+                issued: step.issues.length,
+                answered: cycle.got.length,
+            });
         }
 
         issue({ pe, cell, kind, word }, cycle) {

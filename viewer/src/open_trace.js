@@ -89,17 +89,17 @@
         }
 
         /**
-         * What the picture and the texts show, without empty units where it is folded. Throws a
-         * Fault where the rules don't allow the cycle.
+         * What the picture and the texts show. The form of the picture is `detail`, `folded` (only
+         * what isn't empty) or `compact`. Throws a Fault where the rules don't allow the cycle.
          */
-        view(isFolded) {
+        view(form) {
             const { trace, history, cycle, shape } = this;
             const found = trace.cycle(cycle);
             const step = stepInTrace(trace, trace.before(cycle), found);
             return {
-                trace, history, step, shape, cycle: found,
-                visible: isFolded ? visibleUnits(trace.net, found, step) : null,
-                layoutKey: `${this.layoutCount} ${isFolded}`,
+                trace, history, step, shape, form, cycle: found,
+                visible: form === "folded" ? visibleUnits(trace.net, found, step) : null,
+                layoutKey: `${this.layoutCount} ${form}`,
                 cells: cellsAt(history, cycle),
                 arrivals: arrivalsOf(step),
                 request: this.selected?.request,

@@ -2,13 +2,15 @@
 (function (viewer) {
     "use strict";
 
-    const { NetworkPicture, Motion } = viewer;
+    const { NetworkPicture, CompactPicture, Motion } = viewer;
 
     class Pane {
-        /** `window` is the element that scrolls, and `element` the picture in it. */
-        constructor(window, element) {
+        /** `window` is the element that scrolls; the pictures in it are the detailed one and the compact one. */
+        constructor(window, element, compact) {
             this.window = window;
             this.picture = new NetworkPicture(element, window);
+            this.compact = new CompactPicture(compact);
+            this.isCompact = false;
             this.motion = new Motion(this.picture.moves);
         }
 
@@ -16,12 +18,23 @@
          * Shows a view of a trace. With a duration in milliseconds its moves are shown moving.
          */
         show(view, duration) {
-            this.picture.show(view);
-            this.draw(duration);
+            this.isCompact = view.form === "compact";
+            this.picture.element.toggleAttribute("hidden", this.isCompact);
+            this.compact.element.toggleAttribute("hidden", !this.isCompact);
+            if (this.isCompact) {
+                this.motion.clear();
+                this.compact.show(view);
+            } else {
+                this.picture.show(view);
+                this.draw(duration);
+            }
         }
 
         /** Draws what can be seen of the cycle. */
         draw(duration = 0) {
+            if (this.isCompact) {
+                return;
+            }
             const { picture, motion } = this;
             const { view } = picture;
             const isSelected = (it) => view.isSelected(it, view.cycle.number - 1);
@@ -29,6 +42,14 @@
             picture.element.classList.toggle("moving", duration > 0);
             picture.drawContent();
             motion.show(picture.layout, view.step, duration, isSelected, picture.seen());
+        }
+
+        /** Draws what has come into sight, since the window has moved or has another size. */
+        noteWindow() {
+            if (!this.isCompact) {
+                this.picture.noteWindow();
+                this.draw();
+            }
         }
 
         clear() {

@@ -8,6 +8,9 @@
 
     /** Draws the picture at another scale, with the same point of it in the middle. */
     function setScale(pane, scale) {
+        if (pane.isCompact) {
+            return;
+        }
         const { window, picture } = pane;
         const part = scale / picture.scale;
         const x = (window.scrollLeft + window.clientWidth / 2) * part - window.clientWidth / 2;
@@ -30,6 +33,9 @@
      * room for.
      */
     function chooseScale(pane) {
+        if (pane.isCompact) {
+            return;
+        }
         setScale(pane, Math.max(LEAST_SCALE, Math.min(MOST_SCALE, wholeScale(pane))));
     }
 
@@ -83,11 +89,16 @@
 
     /** Scrolls to an event of the cycle that is shown, unless one can be seen. */
     function revealEvent(pane, sort, number) {
-        scrollToOne(pane, boxesOfEvent(pane, sort, number));
+        if (!pane.isCompact) {
+            scrollToOne(pane, boxesOfEvent(pane, sort, number));
+        }
     }
 
     /** Scrolls to the act or the request that is shown, where it is in this cycle. */
     function revealStory(pane) {
+        if (pane.isCompact) {
+            return;
+        }
         const { layout, view } = pane.picture;
         const { request, selectedAct: act } = view;
         const where = request && viewer.whereIs(view.trace, request, view.cycle.number);
@@ -97,8 +108,16 @@
 
     /** Scrolls to where something moved in the cycle that is shown, unless that can be seen. */
     function revealMoves(pane) {
-        scrollToOne(pane, boxesOfMoves(pane));
+        if (!pane.isCompact) {
+            scrollToOne(pane, boxesOfMoves(pane));
+        }
     }
 
-    Object.assign(viewer, { setScale, wholeScale, chooseScale, revealEvent, revealStory, revealMoves });
+    /** Scrolls to a list, unless it can be seen. */
+    function revealPlace(pane, place) {
+        const box = pane.picture.layout.boxes.get(place);
+        scrollToOne(pane, box ? [box] : []);
+    }
+
+    Object.assign(viewer, { setScale, wholeScale, chooseScale, revealEvent, revealStory, revealMoves, revealPlace });
 })((globalThis.viewer ??= {}));

@@ -142,5 +142,5 @@
         return paths;
     }
 
-    Object.assign(viewer, { wayOf, wirePaths, routePaths });
+    Object.assign(viewer, { wayOf, wirePaths, routePaths, linksOf });
 })((globalThis.viewer ??= {}));

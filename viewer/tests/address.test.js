@@ -8,8 +8,8 @@ const { viewer, example, textOf, historyOf } = require("./support.js");
 test("an address that is written is read again", () => {
     const history = historyOf(textOf(example("two_level_tree"), "expected"));
     const request = history.requestsOfPe[1][0];
-    const hash = viewer.writeAddress({ trace: "two_level_tree/expected", cycle: 3, request, isFolded: true });
-    assert.deepEqual(viewer.readAddress(hash), { trace: "two_level_tree/expected", cycle: 3, request: [1, 0], act: undefined, isFolded: true });
+    const hash = viewer.writeAddress({ trace: "two_level_tree/expected", cycle: 3, request, form: "folded" });
+    assert.deepEqual(viewer.readAddress(hash), { trace: "two_level_tree/expected", cycle: 3, request: [1, 0], act: undefined, form: "folded" });
     const act = viewer.writeAddress({ cycle: 6, act: history.acts[0] });
     assert.equal(act, "#cycle=6&act=6.0");
     assert.deepEqual(viewer.readAddress(act).act, [6, 0]);

@@ -6,7 +6,7 @@ const assert = require("node:assert/strict");
 const { viewer } = require("./support.js");
 
 /** The keys that the page uses. */
-const KEYS = ["ArrowRight", "ArrowLeft", " ", "Home", "End", "a", "C", "e", "+", "-", "0", "f", "t", "Escape"];
+const KEYS = ["ArrowRight", "ArrowLeft", " ", "Home", "End", "a", "C", "e", "+", "-", "0", "f", "o", "t", "Escape"];
 
 function input(type) {
     return { tagName: "INPUT", type };

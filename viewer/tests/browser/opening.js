@@ -44,7 +44,7 @@ module.exports = async (checks) => {
     await checks.check("a link on an open page sets what is shown, and closes a story that it doesn't name", async () => {
         const tab = await checks.tabWithExample("two_level_tree", "#cycle=4&request=3.0");
         await tab.evaluate("location.hash = '#cycle=2&view=folded'");
-        await tab.wait("viewer.app.cycle === 2 && viewer.app.isFolded");
+        await tab.wait("viewer.app.cycle === 2 && viewer.app.form === 'folded'");
         assert.equal(await tab.evaluate("document.querySelector('#folded').checked"), true);
         assert.equal(await tab.evaluate("document.querySelector('#story').hidden"), true);
         await tab.evaluate("new Promise((it) => setTimeout(it, 400))");

@@ -7,9 +7,10 @@ const { example, ultra, hasProgram } = require("../support.js");
 
 const STEPS = 30;
 const SCALES = [
-    ["at full size", "viewer.setScale(viewer.app, 1)"],
+    ["at full size", "viewer.app.changeForm('detail'); viewer.setScale(viewer.app, 1)"],
     ["the whole picture", "viewer.setScale(viewer.app, viewer.wholeScale(viewer.app))"],
-    ["without empty units", "viewer.setScale(viewer.app, 1); viewer.app.isFolded = true"],
+    ["without empty units", "viewer.app.changeForm('folded'); viewer.setScale(viewer.app, 1)"],
+    ["compact", "viewer.app.changeForm('compact')"],
 ];
 
 /** The processor time of each of the first steps, in milliseconds, the least first. */
@@ -22,11 +23,48 @@ async function costsOfSteps(tab) {
     return costs.sort((a, b) => a - b);
 }
 
+/** The compact picture: it fits, shows what each list has, and leads to the detail. */
+async function checkCompact(checks, tab) {
+    await checks.check("at 64 PEs the compact picture is shown, and all of it", async () => {
+        assert.equal(await tab.evaluate("viewer.app.form"), "compact");
+        const [scroller, picture] = await tab.evaluate(`["#scroller", "#compact-network"].map((it) => { const { right, bottom } = document.querySelector(it).getBoundingClientRect(); return { right, bottom }; })`);
+        assert.ok(picture.right <= scroller.right && picture.bottom <= scroller.bottom && scroller.right <= 1280 && scroller.bottom <= 800);
+    });
+    await checks.check("the bars of the compact picture are as long as the lists", async () => {
+        const bars = await tab.evaluate("[1, 2, 3, 4].map((it) => (document.querySelector(`#compact-network .level-${it}`).getAttribute('d') ?? '').split('M').length - 1)");
+        const lengths = await tab.evaluate("[...viewer.app.trace.cycle(viewer.app.cycle).places.values()].map((it) => it.length)");
+        assert.deepEqual(bars, [1, 2, 3, 4].map((level) => lengths.filter((it) => Math.min(4, it) === level).length));
+        assert.ok(bars[0] > 10);
+    });
+    await checks.check("a chosen request's way is drawn in the compact picture", async () => {
+        await tab.evaluate("viewer.app.showRequest(viewer.app.history.requests[3])");
+        const way = await tab.evaluate("document.querySelector('#compact-network .way').getAttribute('d')");
+        // PE, six queues, module in and out, six queues back, PE
+        assert.equal(way.split(/[ML]/).length - 1, 16);
+        await checks.picture(tab, "six_stages_way");
+        await tab.evaluate("viewer.app.closeStory()");
+    });
+    await checks.check("a click in the compact picture leads to the detail", async () => {
+        await tab.evaluate("viewer.app.goTo(4)");
+        const { x, y } = await tab.evaluate(`(() => { const svg = document.querySelector("#compact-network"); const box = viewer.app.pane.compact.boxOf(viewer.placeOf(viewer.REQ, 1, 40));
+            const at = new DOMPoint(box.x + box.w / 2, box.y + box.h / 2).matrixTransform(svg.getScreenCTM()); return { x: at.x, y: at.y }; })()`);
+        for (const type of ["mousePressed", "mouseReleased"]) {
+            await tab.send("Input.dispatchMouseEvent", { type, x, y, button: "left", clickCount: 1 });
+        }
+        assert.equal(await tab.evaluate("viewer.app.form"), "detail");
+        const isSeen = await tab.evaluate("viewer.app.picture.seen()(viewer.app.picture.layout.boxes.get(viewer.placeOf(viewer.REQ, 1, 40)))");
+        assert.ok(isSeen);
+        await tab.press("o");
+        assert.equal(await tab.evaluate("viewer.app.form"), "compact");
+    });
+}
+
 async function sixStages(checks) {
     const settings = checks.file("six.toml", "stages = 6\n");
     const text = ultra("run", settings, path.join(example("tickets"), "prog.s"));
     const tab = await checks.tabWith(checks.file("six", text), "#cycle=4");
     await checks.picture(tab, "six_stages");
+    await checkCompact(checks, tab);
     await checks.check("at 64 PEs a step takes less than 50 ms, at each scale, and without empty units", async () => {
         for (const [name, set] of SCALES) {
             await tab.evaluate(set);
@@ -35,7 +73,7 @@ async function sixStages(checks) {
             assert.ok(costs[STEPS >> 1] < 50, `${costs[STEPS >> 1]} ms`);
         }
     });
-    await tab.evaluate("viewer.app.isFolded = false; viewer.app.goTo(6); viewer.setScale(viewer.app, viewer.wholeScale(viewer.app))");
+    await tab.evaluate("viewer.app.changeForm('detail'); viewer.app.goTo(6); viewer.setScale(viewer.app, viewer.wholeScale(viewer.app))");
     await checks.picture(tab, "six_stages_whole");
     await tab.evaluate("viewer.app.goTo(9); viewer.setScale(viewer.app, 0.85)");
     await tab.press("f");
