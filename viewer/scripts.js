@@ -3,7 +3,7 @@
 // A page that is opened from the disk can't use modules.
 globalThis.viewerScripts = {
     "address": ["tree"],
-    "app": ["address", "cursor", "elements", "events", "open_trace", "pane", "player", "screen", "sight", "strip"],
+    "app": ["address", "cursor", "elements", "events", "overview", "player", "screen", "side", "sight"],
     "cell_style": [],
     "cell_values": [],
     "compact_picture": ["elements", "places", "story", "tree", "wires"],
@@ -32,6 +32,7 @@ globalThis.viewerScripts = {
     "places": [],
     "player": [],
     "screen": ["elements", "happenings", "panels"],
+    "side": ["elements", "open_trace", "pane", "strip"],
     "sight": ["story"],
     "step": ["cursor", "cycle_text", "messages", "pair", "places"],
     "story": ["messages", "places", "tree"],

@@ -5,14 +5,18 @@
 
     /** The forms of the picture that an address may name. */
     const FORMS = ["detail", "folded", "compact"];
+    /** What two traces may be at the same number of, beside cycles. */
+    const SERIES = ["issued", "combined", "acts", "answered"];
 
-    /** `#trace=NAME&cycle=C&request=P.N&act=C.M&view=FORM`; what isn't there is undefined. */
+    /** `#trace=NAME&beside=NAME&together=SERIES&cycle=C&request=P.N&act=C.M&view=FORM`; what isn't there is undefined. */
     function readAddress(hash) {
         const found = new URLSearchParams(hash.replace(/^#/, ""));
         const text = (name) => found.get(name) ?? "";
         const numbers = (name) => /^(\d+)\.(\d+)$/.exec(text(name))?.slice(1).map(Number);
         return {
             trace: found.get("trace") ?? undefined,
+            beside: found.get("beside") ?? undefined,
+            together: SERIES.includes(text("together")) ? text("together") : undefined,
             cycle: /^\d+$/.test(text("cycle")) ? Number(text("cycle")) : undefined,
             request: numbers("request"),
             act: numbers("act"),
@@ -20,10 +24,16 @@
         };
     }
 
-    function writeAddress({ trace, cycle, request, act, form }) {
+    function writeAddress({ trace, beside, together, cycle, request, act, form }) {
         const parts = new URLSearchParams();
         if (trace) {
             parts.set("trace", trace);
+        }
+        if (beside) {
+            parts.set("beside", beside);
+        }
+        if (together) {
+            parts.set("together", together);
         }
         parts.set("cycle", cycle);
         if (request) {

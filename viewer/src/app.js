@@ -1,10 +1,8 @@
-// The page: which trace is shown, and what the buttons, keys, links and clicks do.
+// The page: which traces are shown, and what the buttons, keys, links and clicks do.
 (function (viewer) {
     "use strict";
 
-    const { Fault, OpenTrace, Pane, Player, Screen, Strip, byId, fieldOf } = viewer;
-    const SLICE_MILLISECONDS = 12;
-    const OVERVIEW_MILLISECONDS = 700;
+    const { Fault, Side, Player, Screen, byId, fieldOf } = viewer;
     /** Machines with so many stages are first shown compact. */
     const COMPACT_STAGES = 5;
     const STILL_WORKING = "The trace is still being worked out; try again.";
@@ -12,19 +10,21 @@
 
     class App {
         constructor() {
-            this.pane = new Pane(byId("scroller"), byId("network"), byId("compact-network"));
             this.screen = new Screen({
                 showRequest: (request) => this.showRequest(request),
                 showAct: (act) => this.showAct(act),
                 goTo: (cycle) => this.goTo(cycle),
                 showAll: () => this.showAll(),
             });
-            this.strip = new Strip((cycle) => this.goTo(cycle));
-            byId("strips").append(this.strip.element);
-            this.overviewTime = -Infinity;
+            /** The trace that is open, and the one that is shown beside it. */
+            this.sides = ["", "-2"].map((suffix, index) => new Side(suffix, (cycle) => this.goToOf(index, cycle)));
+            /** The index of the side whose texts are shown. */
+            this.active = 0;
+            /** The cycle that is shown. Of two traces, one may have ended before it. */
+            this.cycle = 0;
+            /** What both traces are at the same number of: `cycle`, or a series of the overview. */
+            this.together = "cycle";
             this.player = new Player(() => this.stepBy(1), () => this.screen.showPlayer(this.player.isPlaying));
-            /** The trace that is open, or null. */
-            this.open = null;
             /** Whether the page has the trace in it, so that a link can name it. */
             this.isListed = false;
             /** The form of the picture: `detail`, `folded` or `compact`. */
@@ -32,6 +32,20 @@
             this.hasMotion = !matchMedia("(prefers-reduced-motion: reduce)").matches;
             this.hasAll = false;
             fieldOf("motion").checked = this.hasMotion;
+        }
+
+        get side() {
+            return this.sides[this.active];
+        }
+
+        /** The trace whose texts are shown, or null. */
+        get open() {
+            return this.side.open;
+        }
+
+        /** The sides that have a trace. */
+        get shown() {
+            return this.sides.filter((it) => it.open);
         }
 
         get trace() {
@@ -46,8 +60,8 @@
             return this.open?.name ?? "";
         }
 
-        get cycle() {
-            return this.open?.cycle ?? 0;
+        get pane() {
+            return this.side.pane;
         }
 
         get picture() {
@@ -62,8 +76,13 @@
             return this.pane.isCompact;
         }
 
+        /** The last cycle that can be gone to. */
+        get last() {
+            return this.together === "cycle" ? Math.max(...this.shown.map((it) => it.open.last)) : this.open.last;
+        }
+
         draw() {
-            this.pane.draw();
+            this.shown.forEach((it) => it.pane.draw());
         }
 
         /**
@@ -73,21 +92,50 @@
         openText(name, bytes, address = {}) {
             this.close();
             try {
-                this.open = new OpenTrace(name, bytes);
+                this.sides[0].openText(name, bytes);
             } catch (fault) {
                 this.refuse(name, fault);
                 return;
             }
             this.address = address;
-            this.hasAll = false;
-            this.overviewTime = -Infinity;
+            this.cycle = 0;
             this.setForm(address.form ?? this.usualForm);
-            this.screen.showTrace(this.open);
-            this.showOverview();
-            this.window.scrollTo(0, 0);
+            this.showTraces();
+        }
+
+        /** Opens a text beside the trace that is open. */
+        openBeside(name, bytes) {
+            this.closeBeside();
+            try {
+                this.sides[1].openText(name, bytes);
+            } catch (fault) {
+                this.sides[1].close();
+                this.screen.say(`${this.reasonOf(name, fault)} So it isn't shown beside ${this.name}.`);
+                return;
+            }
+            this.align();
+            this.showTraces();
+        }
+
+        closeBeside() {
+            this.active = 0;
+            this.sides[1].close();
+            if (this.open) {
+                this.cycle = this.open.cycle;
+                this.showTraces();
+            }
+        }
+
+        /** Shows traces that were just opened. */
+        showTraces() {
+            clearTimeout(this.work);
+            this.hasAll = false;
+            this.screen.showTraces(this.shown, this.active, this.last);
+            this.shown.forEach((it) => (it.overviewTime = -Infinity));
+            this.showOverviews();
             this.show(0);
             if (this.open) {
-                viewer.chooseScale(this.pane);
+                this.shown.forEach((it) => viewer.chooseScale(it.pane));
                 this.workOn();
             }
         }
@@ -95,52 +143,64 @@
         close() {
             this.player.stop();
             clearTimeout(this.work);
-            this.open = null;
-            this.pane.clear();
+            this.active = 0;
+            this.sides.forEach((it) => it.close());
             this.screen.close();
         }
 
-        refuse(name, fault) {
+        /** Why a text isn't a trace. */
+        reasonOf(name, fault) {
             if (!(fault instanceof Fault)) {
                 throw fault;
             }
-            this.close();
             const end = fault.isCut ? ", but the text ends there" : "";
-            const reason = `Line ${fault.line}: expected ${fault.expected}${end}.`;
-            this.screen.refuse(`${name} isn't a trace. ${reason}`);
+            return `${name} isn't a trace. Line ${fault.line}: expected ${fault.expected}${end}.`;
         }
 
-        /** Works out the history in slices, so that the page answers meanwhile. */
+        refuse(name, fault) {
+            const reason = this.reasonOf(name, fault);
+            this.close();
+            this.screen.refuse(reason);
+        }
+
+        /** Calls for a side, whose trace is refused where a fault is found in it. */
+        attempt(side, act) {
+            try {
+                return act(side);
+            } catch (fault) {
+                this.refuse(side.open.name, fault);
+                return undefined;
+            }
+        }
+
+        /** Works out the histories in slices, so that the page answers meanwhile. */
         workOn() {
-            this.screen.showProgress(this.open);
-            this.showOverview();
+            this.screen.showProgress(this.shown.map((it) => it.open));
+            this.showOverviews();
             this.follow(this.address);
-            if (!this.open) {
-                return;
-            }
-            if (this.history.isDone) {
-                this.open.fixShape();
+            const side = this.shown.find((it) => !it.open.history.isDone);
+            if (side) {
+                this.work = setTimeout(() => this.workSlice(side));
+            } else if (this.open) {
+                this.shown.forEach((it) => it.open.fixShape());
+                this.align();
                 this.show(0);
-                return;
             }
-            this.work = setTimeout(() => this.workSlice());
         }
 
         /** Works out a slice. What is shown is shown again as soon as more of it is known. */
-        workSlice() {
-            const unknown = this.open.unknownParts();
-            try {
-                this.open.workFor(SLICE_MILLISECONDS);
-            } catch (fault) {
-                this.refuse(this.name, fault);
-                return;
-            }
-            if (this.open.unknownParts() < unknown) {
+        workSlice(side) {
+            if (this.attempt(side, (it) => it.workSlice())) {
                 this.show(0);
             }
             if (this.open) {
                 this.workOn();
             }
+        }
+
+        showOverviews() {
+            const length = Math.max(...this.shown.map((it) => it.open.trace.count));
+            this.shown.forEach((it) => it.showOverview(length));
         }
 
         /** A machine whose detailed picture doesn't fit the page is first shown compact. */
@@ -159,10 +219,12 @@
             const isScaled = this.form !== "compact";
             this.setForm(form);
             this.show(0);
-            if (!isScaled) {
-                viewer.chooseScale(this.pane);
+            for (const { pane } of this.shown) {
+                if (!isScaled) {
+                    viewer.chooseScale(pane);
+                }
+                pane.window.scrollTo(0, 0);
             }
-            this.window.scrollTo(0, 0);
         }
 
         /** Shows a list of the compact picture in detail. */
@@ -172,13 +234,45 @@
             viewer.revealPlace(this.pane, place);
         }
 
-        /** Draws the overview anew, at most so often while it is worked out. */
-        showOverview() {
-            const now = performance.now();
-            if (this.history.isDone || !(now - this.overviewTime < OVERVIEW_MILLISECONDS)) {
-                this.overviewTime = now;
-                this.strip.show(this.name, this.history.overview, 0, this.trace.count);
+        /** Shows the texts of another side. */
+        activate(index) {
+            if (index !== this.active && this.sides[index].open) {
+                this.active = index;
+                this.hasAll = false;
+                if (this.together !== "cycle") {
+                    this.cycle = this.open.cycle;
+                }
+                this.screen.showTraces(this.shown, this.active, this.last);
+                this.show(0);
             }
+        }
+
+        /** Chooses what both traces are at the same number of. */
+        setTogether(name) {
+            this.together = name;
+            this.cycle = this.open.cycle;
+            this.screen.showTraces(this.shown, this.active, this.last);
+            this.align();
+            this.show(0);
+        }
+
+        /** Takes the other trace to where it is to be beside the active one. */
+        align() {
+            for (const side of this.shown.filter((it) => it !== this.side)) {
+                side.goTo(this.cycleBeside(side.open));
+            }
+        }
+
+        /**
+         * The cycle at which a trace is beside the active one: the same, or that of the last event
+         * which the active one has had, counted from the beginning of each.
+         */
+        cycleBeside({ history, last }) {
+            if (this.together === "cycle") {
+                return this.cycle;
+            }
+            const number = viewer.countUpTo(this.history.overview[this.together], this.open.cycle);
+            return number === 0 ? 0 : (viewer.indexOfEvent(history.overview[this.together], number) ?? last);
         }
 
         /**
@@ -213,22 +307,27 @@
         }
 
         goTo(cycle, duration = this.duration()) {
-            const isNext = cycle === this.cycle + 1;
-            this.open.goTo(cycle);
+            this.cycle = Math.max(0, Math.min(this.last, cycle));
+            this.side.goTo(this.cycle);
+            this.align();
             this.hasAll = false;
-            this.show(isNext ? duration : 0);
+            this.show(duration);
+        }
+
+        /** Goes to a cycle of one side. */
+        goToOf(index, cycle) {
+            this.activate(index);
+            this.goTo(cycle);
         }
 
         /** Goes so many cycles on, and answers whether there was such a cycle. */
         stepBy(count) {
             const cycle = this.cycle + count;
-            if (cycle < 0 || cycle > this.open.last) {
+            if (cycle < 0 || cycle > this.last) {
                 return false;
             }
             this.goTo(cycle);
-            if (this.open) {
-                viewer.revealMoves(this.pane);
-            }
+            this.shown.forEach((it) => viewer.revealMoves(it.pane));
             return true;
         }
 
@@ -286,16 +385,18 @@
 
         /** Shows the cycle. A fault in it is found here where its history isn't worked out yet. */
         show(duration) {
-            try {
-                const view = { ...this.open.view(this.form), hasAll: this.hasAll };
-                document.body.style.setProperty("--motion", `${duration}ms`);
-                this.pane.show(view, duration);
-                this.screen.showCycle(this.open, view);
-                this.strip.goTo(this.cycle, this.cycle < this.history.cycles);
-                this.screen.showAddress(() => this.hash());
-            } catch (fault) {
-                this.refuse(this.name, fault);
+            document.body.style.setProperty("--motion", `${duration}ms`);
+            for (const side of this.shown) {
+                const view = this.attempt(side, (it) => it.show(this.form, duration));
+                if (!view) {
+                    return;
+                }
+                if (side === this.side) {
+                    this.screen.showCycle(side.open, { ...view, hasAll: this.hasAll }, this.cycle, this.last);
+                }
             }
+            this.screen.showTitles(this.shown, this.active);
+            this.screen.showAddress(() => this.hash());
         }
 
         /** The address of what is shown; a trace is named where the page has it in it. */
@@ -303,10 +404,11 @@
             if (!this.open) {
                 return null;
             }
-            const { name, cycle, selected } = this.open;
-            const trace = this.isListed ? name : null;
             const form = this.form === this.usualForm ? null : this.form;
-            return viewer.writeAddress({ trace, cycle, form, ...selected });
+            const [first, second] = this.sides.map((it) => it.open?.name);
+            const names = this.isListed ? { trace: first, beside: second } : {};
+            const together = second && this.together !== "cycle" ? this.together : null;
+            return viewer.writeAddress({ ...names, together, cycle: this.cycle, form, ...this.open.selected });
         }
     }
 

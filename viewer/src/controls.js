@@ -19,14 +19,13 @@
             app.changeForm("detail");
             return;
         }
-        viewer.setScale(app.pane, Math.max(0.08, Math.min(4, app.picture.scale * factor)));
+        app.shown.forEach(({ pane }) => viewer.setScale(pane, Math.max(0.08, Math.min(4, pane.picture.scale * factor))));
     }
 
     function showWhole(app) {
-        if (app.form === "compact") {
-            return;
+        if (app.form !== "compact") {
+            app.shown.forEach(({ pane }) => viewer.setScale(pane, Math.min(2, viewer.wholeScale(pane))));
         }
-        viewer.setScale(app.pane, Math.min(2, viewer.wholeScale(app.pane)));
     }
 
     function goToChosenEvent(app, direction) {
@@ -43,7 +42,7 @@
         onClick("back", () => app.stepBy(-1));
         onClick("play", () => app.player.toggle());
         onClick("forward", () => app.stepBy(1));
-        onClick("last", () => app.goTo(app.open.last));
+        onClick("last", () => app.goTo(app.last));
         onChange("slider", (field) => app.goTo(Number(field.value)), "input");
         onChange("cycle", (field) => app.goTo(Math.floor(Number(field.value) || 0)));
         onChange("speed", (field) => {
@@ -68,7 +67,8 @@
     function showTexts(app, isShown) {
         fieldOf("texts").checked = isShown;
         byId("side").hidden = !isShown;
-        viewer.chooseScale(app.pane);
+        app.shown.forEach(({ pane }) => viewer.chooseScale(pane));
+        app.shown.forEach(({ strip }) => strip.draw());
     }
 
     /** Draws what comes into sight. */
@@ -77,8 +77,7 @@
         const redraw = () => {
             isWaiting = false;
             if (app.open) {
-                app.pane.noteWindow();
-                app.strip.draw();
+                app.shown.forEach(({ pane }) => pane.noteWindow());
             }
         };
         const later = () => {
@@ -87,38 +86,54 @@
                 requestAnimationFrame(redraw);
             }
         };
-        app.window.addEventListener("scroll", later);
-        addEventListener("resize", later);
-        app.window.addEventListener("wheel", (event) => {
-            if (event.ctrlKey) {
-                event.preventDefault();
-                zoomBy(app, event.deltaY < 0 ? 1.1 : 1 / 1.1);
-            }
-        }, { passive: false });
+        addEventListener("resize", () => {
+            later();
+            app.shown.forEach(({ strip }) => strip.draw());
+        });
+        for (const { pane } of app.sides) {
+            pane.window.addEventListener("scroll", later);
+            pane.window.addEventListener("wheel", (event) => {
+                if (event.ctrlKey) {
+                    event.preventDefault();
+                    zoomBy(app, event.deltaY < 0 ? 1.1 : 1 / 1.1);
+                }
+            }, { passive: false });
+        }
     }
 
     /** A click on an entry shows its request, and one on an act its tree. */
-    function connectClicks(app) {
-        byId("network").addEventListener("click", (event) => {
+    function connectPane(app, { pane }, index) {
+        pane.window.addEventListener("pointerdown", () => app.activate(index));
+        pane.picture.element.addEventListener("click", (event) => {
             const data = /** @type {HTMLElement | null} */ (/** @type {Element} */ (event.target).closest("[data-what]"))?.dataset;
             if (!data) {
                 return;
             }
             const [what, module] = data.what.split(" ");
             if (what === "act") {
-                app.showAct({ cycle: app.cycle, module: Number(module) });
+                app.showAct({ cycle: app.open.cycle, module: Number(module) });
             } else {
                 const message = { pe: Number(data.pe), cell: Number(data.cell) };
-                app.showRequest(viewer.requestAt(app.history, message, what === "got" ? app.cycle - 1 : app.cycle));
+                const { cycle } = app.open;
+                app.showRequest(viewer.requestAt(app.history, message, what === "got" ? cycle - 1 : cycle));
             }
         });
-        onClick("close-story", () => app.closeStory());
-        byId("compact-network").addEventListener("click", (event) => {
-            const place = app.pane.compact.placeAt(event);
+        pane.compact.element.addEventListener("click", (event) => {
+            const place = pane.compact.placeAt(event);
             if (place !== null) {
                 app.showDetail(place);
             }
         });
+    }
+
+    function connectClicks(app) {
+        app.sides.forEach((it, index) => {
+            connectPane(app, it, index);
+            it.title.addEventListener("click", () => app.activate(index));
+        });
+        onClick("close-story", () => app.closeStory());
+        onClick("close-beside", () => app.closeBeside());
+        onChange("together", (field) => app.setTogether(field.value));
     }
 
     function connectEvents(app) {
@@ -135,7 +150,7 @@
             ArrowLeft: () => app.stepBy(-1),
             " ": () => app.player.toggle(),
             Home: () => app.goTo(0),
-            End: () => app.goTo(app.open.last),
+            End: () => app.goTo(app.last),
             a: () => app.goToEvent("act", 0, direction),
             c: () => app.goToEvent("combination", 0, direction),
             e: () => goToChosenEvent(app, direction),
@@ -144,6 +159,7 @@
             0: () => showWhole(app),
             f: () => toggleForm(app, "folded"),
             o: () => toggleForm(app, "compact"),
+            x: () => app.activate(1 - app.active),
             t: () => showTexts(app, byId("side").hidden),
             Escape: () => app.closeStory(),
         };

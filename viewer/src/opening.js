@@ -50,18 +50,48 @@
         }
     }
 
+    /** Opens a file beside the trace that is open. */
+    async function openFileBeside(app, file) {
+        const bytes = await file?.arrayBuffer().catch((error) => app.screen.say(`${file.name} can't be read: ${error.message}`));
+        if (bytes && app.open) {
+            app.isListed = false;
+            app.openBeside(file.name, new Uint8Array(bytes));
+        }
+    }
+
     function openListed(app, traces, name, address) {
         beginOpening();
         const found = traces.find((it) => it.name === name) ?? traces[0];
         app.isListed = true;
         fieldOf("traces").value = found.name;
+        fieldOf("besides").value = "";
         app.openText(found.name, found.bytes(), address);
+        openListedBeside(app, traces, address.beside);
+        if (app.open && address.beside) {
+            fieldOf("together").value = address.together ?? "cycle";
+            app.setTogether(fieldOf("together").value);
+        }
+    }
+
+    /** Shows a trace of the page beside the one that is open, or none. */
+    function openListedBeside(app, traces, name) {
+        const found = traces.find((it) => it.name === name);
+        fieldOf("besides").value = found?.name ?? "";
+        if (app.open && found) {
+            app.openBeside(found.name, found.bytes());
+        } else if (app.shown.length > 1) {
+            app.closeBeside();
+        }
     }
 
     function connectFiles(app) {
         byId("file").addEventListener("change", () => {
             openFile(app, fieldOf("file").files[0]);
             fieldOf("file").value = "";
+        });
+        byId("file-beside").addEventListener("change", () => {
+            openFileBeside(app, fieldOf("file-beside").files[0]);
+            fieldOf("file-beside").value = "";
         });
         addEventListener("dragover", (event) => {
             event.preventDefault();
@@ -76,14 +106,24 @@
     }
 
     function connectList(app, traces) {
+        const options = () => traces.map((it) => viewer.html("option", { value: it.name }, it.name));
         byId("trace-choice").hidden = traces.length < 2;
-        byId("traces").replaceChildren(...traces.map((it) => viewer.html("option", { value: it.name }, it.name)));
+        byId("beside-choice").hidden = traces.length < 2;
+        byId("traces").replaceChildren(...options());
+        byId("besides").replaceChildren(viewer.html("option", { value: "" }, "none"), ...options());
+        byId("besides").addEventListener("change", () => openListedBeside(app, traces, fieldOf("besides").value));
         byId("traces").addEventListener("change", () => openListed(app, traces, fieldOf("traces").value, {}));
+    }
+
+    /** Whether an address names other traces than those that are open. */
+    function isOther(app, { trace, beside }) {
+        const [first, second] = app.sides.map((it) => it.open?.name);
+        return trace !== first || (beside ?? undefined) !== second;
     }
 
     function followAddress(app, traces) {
         const address = viewer.readAddress(location.hash);
-        if (traces.length > 0 && (!app.open || (address.trace && address.trace !== app.name))) {
+        if (traces.length > 0 && (!app.open || (address.trace && isOther(app, address)))) {
             openListed(app, traces, address.trace, address);
         } else if (app.open) {
             app.goToLink(address);

@@ -85,11 +85,15 @@
             byId("notice").textContent = text;
         }
 
-        /** What a newly opened trace is, and how far it goes. */
-        showTrace(open) {
-            const { trace, last } = open;
+        /** What the traces are, and how far they go. The texts are those of the active one. */
+        showTraces(sides, active, last) {
+            const { open } = sides[active];
+            const { trace } = open;
             byId("welcome").hidden = true;
             byId("opened").hidden = false;
+            byId("pictures").classList.toggle("two", sides.length > 1);
+            byId("together-choice").hidden = sides.length < 2;
+            byId("close-beside").hidden = sides.length < 2;
             for (const id of ["cycle", "slider"]) {
                 fieldOf(id).max = `${last}`;
             }
@@ -100,11 +104,22 @@
             byId("facts").classList.toggle("cut", trace.cut !== null);
         }
 
+        /** Where there are two traces, each has its name and its cycle above its picture. */
+        showTitles(sides, active) {
+            sides.forEach(({ title, open }, index) => {
+                const { cycle, last, name } = open;
+                title.hidden = sides.length < 2;
+                setText(title, `${name}: cycle ${cycle}${cycle === last ? ", its last" : ` of ${last}`}`);
+                title.setAttribute("aria-pressed", `${index === active}`);
+            });
+        }
+
         /** How far a long trace is worked out. It isn't spoken, since it changes all the time. */
-        showProgress({ trace, history }) {
-            const part = Math.floor((100 * history.cycles) / trace.count);
-            const far = `Stories, events and cells are worked out up to cycle ${history.cycles} (${part} %).`;
-            byId("progress").textContent = history.isDone ? "" : far;
+        showProgress(traces) {
+            const found = traces.find((it) => !it.history.isDone);
+            const part = found && Math.floor((100 * found.history.cycles) / found.trace.count);
+            const far = `Stories, events and cells are worked out up to cycle ${found?.history.cycles} (${part} %).`;
+            byId("progress").textContent = found ? far : "";
         }
 
         showPlayer(isPlaying) {
@@ -113,17 +128,17 @@
             byId("announcement").setAttribute("aria-live", isPlaying ? "off" : "polite");
         }
 
-        /** Shows the cycle that a trace is at. */
-        showCycle(open, view) {
-            this.showControls(open);
+        /** Shows the cycle that a trace is at, and the cycle of the page that may be after its end. */
+        showCycle(open, view, cycle, last) {
+            this.showControls(cycle, last);
+            byId("cycle-name").textContent = open.cycle;
             keepFocus(() => this.showTexts(open, view));
         }
 
-        showControls({ cycle, last }) {
+        showControls(cycle, last) {
             fieldOf("cycle").value = cycle;
             fieldOf("slider").value = cycle;
             byId("slider").setAttribute("aria-valuetext", `cycle ${cycle} of ${last}`);
-            byId("cycle-name").textContent = cycle;
             [byId("first"), byId("back")].forEach((it) => setDisabled(it, cycle === 0));
             [byId("last"), byId("forward")].forEach((it) => setDisabled(it, cycle === last));
         }

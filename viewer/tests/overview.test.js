@@ -36,13 +36,14 @@ test("bins have the greatest number and the mean of their cycles, and none is em
     assert.equal(viewer.binsOf(Uint16Array.of(5, 6), 100).count, 2);
 });
 
-test("a million cycles are put into bins in less than 50 milliseconds", () => {
+test("the bins of a million cycles have each cycle once", () => {
     const series = new Uint16Array(1_000_000).map((_, index) => index % 7);
-    const start = performance.now();
-    const { count, greatest } = viewer.binsOf(series, 1200);
-    assert.ok(performance.now() - start < 50);
-    assert.equal(count, 1200);
+    const { count, greatest, mean } = viewer.binsOf(series, 1237);
+    assert.equal(count, 1237);
     assert.ok(greatest.every((it) => it === 6));
+    assert.ok(mean.every((it) => it > 2.9 && it < 3.1));
+    series.fill(0)[765_432] = 1;
+    assert.equal(viewer.binsOf(series, 1237).greatest.filter((it) => it === 1).length, 1);
 });
 
 test("the cycle of the event with a number, and the number of events up to a cycle", () => {

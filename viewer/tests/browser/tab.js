@@ -121,9 +121,9 @@ class Tab {
         }
     }
 
-    async choose(file) {
+    async choose(file, selector = "#file") {
         const { root } = await this.send("DOM.getDocument");
-        const { nodeId } = await this.send("DOM.querySelector", { nodeId: root.nodeId, selector: "#file" });
+        const { nodeId } = await this.send("DOM.querySelector", { nodeId: root.nodeId, selector });
         await this.send("DOM.setFileInputFiles", { nodeId, files: [file] });
     }
 
