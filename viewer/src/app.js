@@ -31,6 +31,8 @@
             this.form = "detail";
             this.hasMotion = !matchMedia("(prefers-reduced-motion: reduce)").matches;
             this.hasAll = false;
+            /** Whether keys of one letter do something. */
+            this.hasLetterKeys = true;
             fieldOf("motion").checked = this.hasMotion;
         }
 
@@ -291,6 +293,7 @@
         /** Goes where an address leads. What isn't worked out yet is tried again later. */
         follow(address) {
             const { cycle, request, act } = address;
+            const { last, history } = this.open;
             const found = request && this.open.findRequest(request);
             const foundAct = act && this.open.findAct({ cycle: act[0], module: act[1] });
             if (found ?? foundAct) {
@@ -304,9 +307,26 @@
                     viewer.revealStory(this.pane);
                 }
             }
+            if (cycle > last) {
+                this.screen.say(`There is no cycle ${cycle}: the last is ${last}.`);
+            }
+            if (this.open && history.isDone) {
+                this.sayMissing(this.address);
+            }
+        }
+
+        /** Says what a link leads to that isn't in the trace. */
+        sayMissing({ request, act }) {
+            this.address = {};
+            if (request && !this.open.findRequest(request)) {
+                this.screen.say(`There is no request ${request.join(".")} in this trace.`);
+            } else if (act && !this.open.findAct({ cycle: act[0], module: act[1] })) {
+                this.screen.say(`Module ${act[1]} doesn't act in cycle ${act[0]}.`);
+            }
         }
 
         goTo(cycle, duration = this.duration()) {
+            this.screen.say("");
             this.cycle = Math.max(0, Math.min(this.last, cycle));
             this.side.goTo(this.cycle);
             this.align();
@@ -339,7 +359,6 @@
         goToEvent(sort, number, direction) {
             const cycle = viewer.nextCycle(this.open.eventCycles(sort, number), this.cycle, direction);
             if (cycle !== null) {
-                this.screen.say("");
                 this.goTo(cycle);
                 if (this.open) {
                     viewer.revealEvent(this.pane, sort, number);
@@ -373,6 +392,7 @@
         }
 
         closeStory() {
+            this.screen.say("");
             this.open.selected = null;
             this.show(0);
         }

@@ -2,16 +2,8 @@
 (function (viewer) {
     "use strict";
 
-    const COLOURS = [
-        ["#0b62a4", "#dcebf8"],
-        ["#b45309", "#fdebd3"],
-        ["#1b7a3d", "#dcf3e2"],
-        ["#7b3fa0", "#efe2f7"],
-        ["#b3261e", "#fbe0de"],
-        ["#0d7377", "#d8f1f1"],
-        ["#6d4c2f", "#efe5da"],
-        ["#6b6000", "#f5f0c4"],
-    ];
+    /** The classes `cell-0` to `cell-7` of style.css have the colours, for light pages and for dark ones. */
+    const COLOURS = 8;
     /** Shapes around the point 0 0, 8 wide. */
     const SHAPES = [
         "M-4 0a4 4 0 1 0 8 0a4 4 0 1 0 -8 0",
@@ -27,9 +19,8 @@
 
     /** Eight cells in a row have eight colours, and each eight have another shape, six in all. */
     function styleOf(cell) {
-        const [strong, light] = COLOURS[cell % COLOURS.length];
-        const shape = Math.floor(cell / COLOURS.length) % SHAPES.length;
-        return { strong, light, shape: SHAPES[shape], sign: SIGNS[shape] };
+        const shape = Math.floor(cell / COLOURS) % SHAPES.length;
+        return { colour: `cell-${cell % COLOURS}`, shape: SHAPES[shape], sign: SIGNS[shape] };
     }
 
     Object.assign(viewer, { styleOf });

@@ -4,6 +4,8 @@
 
     const { byId, fieldOf } = viewer;
     const ZOOM = 1.25;
+    /** The name under which the browser keeps whether single-letter keys are on. */
+    const LETTER_KEYS = "ultra viewer letter keys";
 
     function onClick(id, act) {
         byId(id).addEventListener("click", act);
@@ -48,6 +50,43 @@
         onChange("speed", (field) => {
             app.player.cyclesPerSecond = Number(field.value);
         });
+    }
+
+    /** The single-letter keys can be turned off, and the page keeps that. */
+    function connectLetterKeys(app) {
+        const read = () => {
+            try {
+                return localStorage.getItem(LETTER_KEYS) !== "off";
+            } catch {
+                return true;
+            }
+        };
+        app.hasLetterKeys = read();
+        fieldOf("letters").checked = app.hasLetterKeys;
+        onChange("letters", (field) => {
+            app.hasLetterKeys = field.checked;
+            try {
+                localStorage.setItem(LETTER_KEYS, field.checked ? "on" : "off");
+            } catch {
+                // a page that may keep nothing forgets it
+            }
+        });
+    }
+
+    /** Saves the picture that is shown, all of it. */
+    async function save(app, kind) {
+        const { pane, open } = app;
+        pane.drawWhole();
+        await viewer.savePicture(pane.element, `${open.name}_cycle_${open.cycle}`, kind);
+        pane.draw();
+    }
+
+    function connectPaper(app) {
+        onClick("save-svg", () => save(app, "svg"));
+        onClick("save-png", () => save(app, "png"));
+        addEventListener("beforeprint", () => app.shown.forEach(({ pane }) => pane.drawWhole()));
+        addEventListener("afterprint", () => app.shown.forEach(({ pane }) => pane.draw()));
+        matchMedia("(prefers-color-scheme: dark)").addEventListener("change", () => app.shown.forEach(({ strip }) => strip.draw()));
     }
 
     function connectPicture(app) {
@@ -131,6 +170,7 @@
             connectPane(app, it, index);
             it.title.addEventListener("click", () => app.activate(index));
         });
+        byId("entries-box").addEventListener("toggle", () => app.open && app.show(0));
         onClick("close-story", () => app.closeStory());
         onClick("close-beside", () => app.closeBeside());
         onChange("together", (field) => app.setTogether(field.value));
@@ -169,7 +209,8 @@
     function connectKeys(app) {
         document.addEventListener("keydown", (event) => {
             const isOfBrowser = event.ctrlKey || event.metaKey || event.altKey;
-            if (!app.open || isOfBrowser || viewer.isOwnKey(event.target, event.key)) {
+            const isOff = !app.hasLetterKeys && viewer.isLetterKey(event.key);
+            if (!app.open || isOfBrowser || isOff || viewer.isOwnKey(event.target, event.key)) {
                 return;
             }
             const act = actOfKey(app, event);
@@ -184,6 +225,8 @@
         connectCycles(app);
         connectEvents(app);
         connectPicture(app);
+        connectPaper(app);
+        connectLetterKeys(app);
         connectClicks(app);
         connectKeys(app);
     }

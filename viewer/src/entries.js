@@ -19,23 +19,23 @@
      * An entry at a point. `look` has its text, title, PE, cell, width and classes, and what it is.
      */
     function entryOf(x, y, look) {
-        const { strong, light, shape } = styleOf(look.cell);
+        const { colour, shape } = styleOf(look.cell);
         const top = y + 1;
         return svg(
             "g",
-            { class: `entry ${look.classes}`, ...dataOf(look) },
+            { class: `entry ${colour} ${look.classes}`, ...dataOf(look) },
             svg("title", {}, look.title),
-            svg("rect", { x, y: top, width: look.width, height: ENTRY - 2, rx: 4, fill: light, stroke: strong }),
-            svg("path", { d: shape, fill: strong, transform: `translate(${x + 9} ${top + ENTRY / 2 - 1})` }),
+            svg("rect", { x, y: top, width: look.width, height: ENTRY - 2, rx: 4 }),
+            svg("path", { d: shape, transform: `translate(${x + 9} ${top + ENTRY / 2 - 1})` }),
             svg("text", { x: x + 17, y: top + 10.5 }, shortened(look.text, look.width)),
         );
     }
 
     /** An entry where there is no room for text: its colour alone. */
     function dotOf(x, y, look) {
-        const { strong } = styleOf(look.cell);
+        const { colour } = styleOf(look.cell);
         const size = { x, y: y + 1, width: look.width, height: ENTRY - 2 };
-        return svg("rect", { class: `entry dot ${look.classes}`, ...size, fill: strong, ...dataOf(look) });
+        return svg("rect", { class: `entry dot ${colour} ${look.classes}`, ...size, ...dataOf(look) });
     }
 
     Object.assign(viewer, { entryOf, dotOf });

@@ -12,15 +12,15 @@
     }
 
     function wireOf(way, move, isSelected) {
-        const { strong } = styleOf(move.message.cell);
-        const classes = `moved ${kindOf(move)} ${isSelected ? "selected" : ""}`;
-        return svg("path", { class: classes, d: way.path, stroke: strong });
+        const { colour } = styleOf(move.message.cell);
+        const classes = `moved ${colour} ${kindOf(move)} ${isSelected ? "selected" : ""}`;
+        return svg("path", { class: classes, d: way.path });
     }
 
     function arrowOn({ arrow }, { message }) {
-        const { strong } = styleOf(message.cell);
+        const { colour } = styleOf(message.cell);
         const transform = `translate(${arrow.x} ${arrow.y}) rotate(${arrow.angle})`;
-        return svg("path", { class: "arrow", d: "M6 0L-4 -5L-4 5z", fill: strong, transform });
+        return svg("path", { class: `arrow ${colour}`, d: "M6 0L-4 -5L-4 5z", transform });
     }
 
     /**
@@ -35,17 +35,17 @@
     }
 
     function travellerOf(move, hasText) {
-        const { strong, light, shape } = styleOf(move.message.cell);
+        const { colour, shape } = styleOf(move.message.cell);
         if (!hasText) {
-            return svg("g", { class: "traveller" }, svg("path", { d: shape, fill: strong }));
+            return svg("g", { class: `traveller ${colour}` }, svg("path", { d: shape }));
         }
         const text = entryText(move.message);
         const width = text.length * CHARACTER + 22;
         return svg(
             "g",
-            { class: "traveller" },
-            svg("rect", { x: -width / 2, y: -8, width, height: 16, rx: 5, fill: light, stroke: strong }),
-            svg("path", { d: shape, fill: strong, transform: `translate(${8 - width / 2} 0)` }),
+            { class: `traveller ${colour}` },
+            svg("rect", { x: -width / 2, y: -8, width, height: 16, rx: 5 }),
+            svg("path", { d: shape, transform: `translate(${8 - width / 2} 0)` }),
             svg("text", { x: 16 - width / 2, y: 3.8 }, text),
         );
     }

@@ -81,9 +81,9 @@
             return (box) => meets(box.x, box.w, x, w) && meets(box.y, box.h, y, h);
         }
 
-        drawContent() {
+        drawContent(isSeen = this.seen()) {
             const hasText = this.scale >= TEXT_SCALE;
-            const contents = new Contents(this.layout, this.view, this.seen(), hasText);
+            const contents = new Contents(this.layout, this.view, isSeen, hasText);
             this.content.replaceChildren(...contents.draw());
             const { request } = this.view;
             this.route.setAttribute("d", request ? routePaths(this.layout, request).join("") : "");

@@ -67,6 +67,10 @@
         fieldOf("besides").value = "";
         app.openText(found.name, found.bytes(), address);
         openListedBeside(app, traces, address.beside);
+        const lacking = [address.trace, address.beside].find((it) => it && !traces.some(({ name }) => name === it));
+        if (app.open && lacking) {
+            app.screen.say(`This page has no trace ${lacking}.`);
+        }
         if (app.open && address.beside) {
             fieldOf("together").value = address.together ?? "cycle";
             app.setTogether(fieldOf("together").value);

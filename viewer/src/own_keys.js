@@ -6,6 +6,26 @@
     const KEYS_OF_SLIDER = ["ArrowLeft", "ArrowRight", "ArrowUp", "ArrowDown", "PageUp", "PageDown", "Home", "End"];
     const KEYS_OF_BUTTON = [" ", "Enter"];
 
+    const KEYS_ACROSS = ["ArrowLeft", "ArrowRight"];
+    const KEYS_DOWN = ["ArrowUp", "ArrowDown", "PageUp", "PageDown", "Home", "End"];
+
+    /**
+     * Whether a key scrolls an element which was reached by keyboard: one that can be scrolled that
+     * way. By a click it gets the focus, too, but then the keys go from cycle to cycle.
+     */
+    function isScrolledBy(element, key) {
+        if (element.tabIndex !== 0 || !element.matches?.(":focus-visible")) {
+            return false;
+        }
+        const isAcross = element.scrollWidth > element.clientWidth && KEYS_ACROSS.includes(key);
+        return isAcross || (element.scrollHeight > element.clientHeight && KEYS_DOWN.includes(key));
+    }
+
+    /** Whether a key is a single character, which a person who speaks to the browser may not want. */
+    function isLetterKey(key) {
+        return key.length === 1 && key !== " ";
+    }
+
     /** The sort of an element: of an input its type, of another its name. */
     function sortOf({ tagName, type }) {
         return tagName === "INPUT" ? type : tagName.toLowerCase();
@@ -26,9 +46,9 @@
             case "file":
                 return KEYS_OF_BUTTON.includes(key);
             default:
-                return false;
+                return isScrolledBy(element, key);
         }
     }
 
-    Object.assign(viewer, { isOwnKey });
+    Object.assign(viewer, { isOwnKey, isLetterKey });
 })((globalThis.viewer ??= {}));

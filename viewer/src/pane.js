@@ -31,7 +31,7 @@
         }
 
         /** Draws what can be seen of the cycle. */
-        draw(duration = 0) {
+        draw(duration = 0, isSeen = this.picture.seen()) {
             if (this.isCompact) {
                 return;
             }
@@ -40,8 +40,22 @@
             const isSelected = (it) => view.isSelected(it, view.cycle.number - 1);
             // entries arrive only when the cycle is stepped to, not when it is drawn again
             picture.element.classList.toggle("moving", duration > 0);
-            picture.drawContent();
-            motion.show(picture.layout, view.step, duration, isSelected, picture.seen());
+            picture.drawContent(isSeen);
+            motion.show(picture.layout, view.step, duration, isSelected, isSeen);
+        }
+
+        /** Draws all of the picture, for paper or for a file. */
+        drawWhole() {
+            const isSeen = () => true;
+            if (!this.isCompact) {
+                this.picture.drawUnits(isSeen);
+                this.draw(0, isSeen);
+            }
+        }
+
+        /** The picture that is shown. */
+        get element() {
+            return this.isCompact ? this.compact.element : this.picture.element;
         }
 
         /** Draws what has come into sight, since the window has moved or has another size. */

@@ -107,8 +107,8 @@
     }
 
     function cellItem({ cell, value, isNew }) {
-        const { strong, sign } = viewer.styleOf(cell);
-        const mark = html("span", { style: `color: ${strong}`, "aria-hidden": "true" }, sign);
+        const { colour, sign } = viewer.styleOf(cell);
+        const mark = html("span", { class: `sign ${colour}`, "aria-hidden": "true" }, sign);
         return html("li", isNew ? { class: "new" } : {}, mark, ` cell ${cell}: ${value}`);
     }
 
@@ -119,6 +119,26 @@
         element.replaceChildren(list, ...more(cells.length - items.length, actions));
     }
 
+    /** A list of a place: each of its entries leads to its request, a record to both of its own. */
+    function placeItem(place, list, view, actions) {
+        const { number } = view.cycle;
+        const show = (text, identity) => link(text, () => actions.showRequest(viewer.requestAt(view.history, identity, number)));
+        const buttons = list.flatMap((it) => [
+            show(viewer.entryText(it), it),
+            ...("partner" in it ? [" ", show(`${it.partner}@${it.cell}`, { pe: it.partner, cell: it.cell })] : []),
+            ", ",
+        ]);
+        return html("li", {}, `${placeText(place)}: `, ...buttons.slice(0, -1));
+    }
+
+    /** All that waits or is on its way, place by place. */
+    function entriesPanel(element, view, actions) {
+        const places = [...view.cycle.places];
+        const shown = places.slice(0, view.hasAll ? places.length : MOST_SENTENCES);
+        const items = shown.map(([place, list]) => placeItem(place, list, view, actions));
+        element.replaceChildren(listOr("No message is in any list.", items), ...more(places.length - shown.length, actions));
+    }
+
     function textPanel(element, trace, cycle) {
         const first = trace.line(cycle);
         const lines = trace.text(cycle).trimEnd().split("\n");
@@ -127,5 +147,5 @@
         element.textContent = [...shown, ...rest].join("\n");
     }
 
-    Object.assign(viewer, { happeningsPanel, requestPanel, actPanel, cellsPanel, textPanel });
+    Object.assign(viewer, { happeningsPanel, requestPanel, actPanel, cellsPanel, entriesPanel, textPanel });
 })((globalThis.viewer ??= {}));

@@ -48,7 +48,7 @@
      */
     function keepFocus(replace) {
         const focused = document.activeElement;
-        const panel = focused?.closest("#story, #happenings, #cells");
+        const panel = focused?.closest("#story, #happenings, #cells, #entries");
         replace();
         if (panel && !isVisible(focused)) {
             const buttons = [...panel.querySelectorAll("button")].filter(isVisible);
@@ -82,7 +82,7 @@
 
         say(text) {
             byId("notice").hidden = text === "";
-            byId("notice").textContent = text;
+            setText(byId("notice"), text);
         }
 
         /** What the traces are, and how far they go. The texts are those of the active one. */
@@ -147,6 +147,10 @@
             const { actions } = this;
             viewer.happeningsPanel(byId("happenings"), view, actions);
             viewer.cellsPanel(byId("cells"), view, actions);
+            const box = /** @type {HTMLDetailsElement} */ (byId("entries-box"));
+            if (box.open) {
+                viewer.entriesPanel(byId("entries"), view, actions);
+            }
             viewer.textPanel(byId("text"), trace, cycle);
             byId("story").hidden = !selected;
             if (selected?.request) {

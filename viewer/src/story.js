@@ -79,6 +79,23 @@
         return `it meets ${other} ${at}, ${isOld ? "and" : "which"} goes on for both`;
     }
 
+    /** The pair at a stage in which a request went on for another, or null. */
+    function carriedAt(request, stage) {
+        for (let tree = request; tree.parent && tree.parent.old === tree; tree = tree.parent) {
+            if (tree.parent.stage === stage) {
+                return tree.parent;
+            }
+        }
+        return null;
+    }
+
+    /** That a reply is split, where a request's reply comes to a stage at which it went on for another. */
+    function splitOf(request, last, { place }) {
+        const pair = isKind(place, REP) && last.place !== place ? carriedAt(request, viewer.stageOf(place)) : null;
+        const other = pair && viewer.nameOf(viewer.bearerOf(pair.later));
+        return pair ? [`its reply is split at stage ${pair.stage}, position ${pair.position}, for ${other}`] : [];
+    }
+
     function isSame(row, { place, entry }) {
         return row.place === place && row.text === entryText(entry);
     }
@@ -105,6 +122,9 @@
             const last = rows.at(-1);
             if (last && where && isKind(last.place, WAIT) && isKind(where.place, REP)) {
                 happenings.push("the reply is split");
+            }
+            if (last && where) {
+                happenings.push(...splitOf(request, last, where));
             }
             if (last && where && happenings.length === 0 && isSame(last, where)) {
                 last.until = number;

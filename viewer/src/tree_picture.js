@@ -25,13 +25,13 @@
         }
 
         element() {
-            const { strong } = styleOf(this.act.cell);
+            const { colour } = styleOf(this.act.cell);
             this.draw(this.act.tree);
             const { width, height } = this;
             const label = `Combining tree, with its ${this.rows.size} leaves in serial order from the top`;
             const size = { width, height, viewBox: `0 0 ${width} ${height}` };
             const name = { role: "img", "aria-label": label };
-            return svg("svg", { class: "tree", ...size, ...name, style: `--cell: ${strong}` }, ...this.drawn);
+            return svg("svg", { class: `tree ${colour}`, ...size, ...name }, ...this.drawn);
         }
 
         /** Draws a tree, and answers the point from which it goes on to the right. */

@@ -28,8 +28,8 @@ test("the story of a request that goes on for two others", () => {
         [4, 4, "req 1 0: 2@0 faa 10 *", "it meets 3.0 at stage 1, position 0, and goes on for both"],
         [5, 5, "inp 0: 2@0 faa 10", ""],
         [6, 6, "out 0: 2@0 = 0", "module 0 serves it"],
-        [7, 7, "rep 1 0: 2@0 = 0", ""],
-        [8, 8, "rep 0 1: 2@0 = 0", ""],
+        [7, 7, "rep 1 0: 2@0 = 0", "its reply is split at stage 1, position 0, for 3.0"],
+        [8, 8, "rep 0 1: 2@0 = 0", "its reply is split at stage 0, position 0, for 0.0"],
         [9, 9, "", "PE 2 gets 0"],
     ]);
 });

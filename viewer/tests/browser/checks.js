@@ -65,7 +65,7 @@ class Checks {
     async checkQuiet(name, tab) {
         await this.check(`${name}: nothing on the console, nothing from a network`, () => {
             assert.deepEqual(tab.complaints, []);
-            assert.deepEqual(tab.addresses.filter((it) => !/^(file|data|about):/.test(it)), []);
+            assert.deepEqual(tab.addresses.filter((it) => !/^(file|data|about|blob):/.test(it)), []);
         });
     }
 

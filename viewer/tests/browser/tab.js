@@ -3,7 +3,7 @@
 
 const fs = require("node:fs");
 
-const KEYS = { ArrowRight: 39, ArrowLeft: 37, Home: 36, End: 35, Escape: 27, Tab: 9, " ": 32 };
+const KEYS = { ArrowRight: 39, ArrowLeft: 37, ArrowUp: 38, ArrowDown: 40, Enter: 13, Home: 36, End: 35, Escape: 27, Tab: 9, " ": 32 };
 
 class Tab {
     constructor(browser, session) {
