@@ -22,16 +22,20 @@ def script_order():
     return list(TopologicalSorter(table).static_order())
 
 
-def element_of(name, text):
-    """A text as data of a page. No `<` is left in it, so nothing in it ends its element."""
-    data = json.dumps(text).replace("<", "\\u003c")
-    return f'<script type="application/json" data-trace="{escape(name)}">{data}</script>\n'
+def element_of(attribute, data):
+    """Data of a page. No `<` is left in it, so nothing in it ends its element."""
+    text = json.dumps(data).replace("<", "\\u003c")
+    return f'<script type="application/json" {attribute}>{text}</script>\n'
 
 
-def page_with(texts):
-    """The page with these texts in it, which are pairs of a name and a text."""
+def page_with(texts, playground=None):
+    """The page with these texts in it, which are pairs of a name and a text; and with the data of a playground."""
     style = f"<style>\n{read('style.css')}</style>"
+    inside = "".join(element_of(f'data-trace="{escape(name)}"', text) for name, text in texts)
     scripts = "".join(f"<script>\n{read(f'src/{it}.js')}</script>\n" for it in script_order())
     page = re.sub(r'<link rel="stylesheet" href="style\.css">', lambda _: style, read("index.html"))
     head, tail = page.split(LOADERS)
-    return head + "".join(element_of(*it) for it in texts) + scripts + tail
+    if playground is not None:
+        inside += element_of('id="playground-data"', playground)
+        scripts += f"<script>\n{read('playground.js')}</script>\n"
+    return head + inside + scripts + tail

@@ -38,6 +38,7 @@
                 return KEYS_OF_SLIDER.includes(key);
             case "number":
             case "select":
+            case "textarea":
                 return key !== "Escape";
             case "button":
             case "summary":
