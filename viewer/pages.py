@@ -28,10 +28,39 @@ def element_of(attribute, data):
     return f'<script type="application/json" {attribute}>{text}</script>\n'
 
 
+def sort_of(text):
+    """What sort of text a file has, as texts.js says it by the first lines."""
+    if text.startswith("ultra trace"):
+        return "trace"
+    if re.match(r"\d+ (step|reply) \d", text):
+        return "steps"
+    lines = (re.sub(r"#.*", "", it).strip() for it in text.split("\n"))
+    return "settings" if re.match(r'["\w-]+\s*=|\[', next(filter(None, lines), "")) else "program"
+
+
+def trace_of(name, traces):
+    """The trace to which a text belongs: the one in the same folder, or the only one. Else this is a ValueError."""
+    beside = [it for it in traces if Path(it).parent == Path(name).parent]
+    found = beside if len(beside) == 1 else traces
+    if len(found) != 1:
+        raise ValueError(f"{name}: which trace it belongs to isn't clear: put it into the folder of its trace")
+    return found[0]
+
+
+def elements_of(texts):
+    """The elements of texts, which are pairs of a name and a text: traces, and what belongs to them."""
+    traces = [name for name, text in texts if sort_of(text) == "trace"]
+    for name, text in texts:
+        if name in traces:
+            yield element_of(f'data-trace="{escape(name)}"', text)
+        else:
+            yield element_of(f'data-text="{escape(name)}" data-of="{escape(trace_of(name, traces))}"', text)
+
+
 def page_with(texts, playground=None):
-    """The page with these texts in it, which are pairs of a name and a text; and with the data of a playground."""
+    """The page with these texts in it, and with the data of a playground. A text without its trace is a ValueError."""
     style = f"<style>\n{read('style.css')}</style>"
-    inside = "".join(element_of(f'data-trace="{escape(name)}"', text) for name, text in texts)
+    inside = "".join(elements_of(texts))
     scripts = "".join(f"<script>\n{read(f'src/{it}.js')}</script>\n" for it in script_order())
     page = re.sub(r'<link rel="stylesheet" href="style\.css">', lambda _: style, read("index.html"))
     head, tail = page.split(LOADERS)

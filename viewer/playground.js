@@ -64,7 +64,7 @@
             const fields = html("div", { class: "editors" }, this.settings.element, this.program.element);
             this.element = html("details", { id: "playground", open: true }, html("summary", {}, "Settings and program"), bar, fields);
             document.querySelector("header").after(this.element);
-            document.getElementById("welcome").remove();
+            document.getElementById("welcome").classList.add("absent");
         }
 
         connect() {
@@ -129,11 +129,11 @@
             this[file]?.mark(line);
         }
 
-        show({ trace }) {
+        show({ trace, steps, settings, program }) {
             this.settings.mark(null);
             this.program.mark(null);
-            this.texts = [["run", trace]];
-            this.app.openText("run", new TextEncoder().encode(trace));
+            this.texts = Object.entries({ run: trace, settings, program, steps }).filter(([, text]) => text !== null);
+            this.app.openFiles(this.texts.map(([name, text]) => ({ name, bytes: new TextEncoder().encode(text) })));
         }
 
         /** Saves the page as a file that needs no server, with what was run last. */

@@ -31,6 +31,8 @@
             this.form = "detail";
             this.hasMotion = !matchMedia("(prefers-reduced-motion: reduce)").matches;
             this.hasAll = false;
+            /** Texts that were opened before their trace. */
+            this.waiting = [];
             /** Whether keys of one letter do something. */
             this.hasLetterKeys = true;
             fieldOf("motion").checked = this.hasMotion;
@@ -78,7 +80,11 @@
             return this.pane.isCompact;
         }
 
-        /** The last cycle that can be gone to. */
+        /** The first cycle that can be gone to, and the last one. */
+        get first() {
+            return this.together === "cycle" ? Math.min(...this.shown.map((it) => it.open.first)) : this.open.first;
+        }
+
         get last() {
             return this.together === "cycle" ? Math.max(...this.shown.map((it) => it.open.last)) : this.open.last;
         }
@@ -100,9 +106,57 @@
                 return;
             }
             this.address = address;
-            this.cycle = 0;
+            this.cycle = this.open.first;
             this.setForm(address.form ?? this.usualForm);
             this.showTraces();
+        }
+
+        /**
+         * Opens files in any order: traces, and texts that belong to them. The first trace is opened,
+         * and a second beside it; the other texts belong to the first, or to the one that is open.
+         */
+        openFiles(files, address = {}) {
+            const sorted = files.map((it) => ({ ...it, sort: viewer.sortOfBytes(it.bytes) }));
+            const traces = sorted.filter((it) => it.sort === "trace");
+            const texts = sorted.filter((it) => it.sort !== "trace");
+            if (traces.length > 0) {
+                this.openText(traces[0].name, traces[0].bytes, address);
+            }
+            if (this.open) {
+                this.take([...this.waiting, ...texts]);
+                this.waiting = [];
+            } else if (traces.length === 0) {
+                this.waiting.push(...texts);
+                this.screen.refuse(`${texts.map((it) => it.name).join(", ")}: open the trace to which this belongs, too.`);
+            }
+            if (this.open && traces.length > 1) {
+                this.openBeside(traces[1].name, traces[1].bytes);
+            }
+        }
+
+        /** Takes texts that belong to the open trace, and says which of them don't. */
+        take(texts) {
+            const reasons = texts.map((it) => this.reasonAgainst(it)).filter(Boolean);
+            if (texts.length > 0) {
+                this.side.overviewTime = -Infinity;
+                this.showOverviews();
+                this.show(0);
+                this.screen.say(reasons.join(" "));
+            }
+        }
+
+        /** Takes a text. Answers why it doesn't belong to the open trace, or null. */
+        reasonAgainst({ name, bytes, sort }) {
+            try {
+                this.open.take(sort, new TextDecoder().decode(bytes));
+                return null;
+            } catch (fault) {
+                if (!(fault instanceof Fault)) {
+                    throw fault;
+                }
+                const misfit = `${name} doesn't belong to ${this.name}: ${fault.expected}.`;
+                return fault.isMisfit ? misfit : `${name}: line ${fault.line}: expected ${fault.expected}.`;
+            }
         }
 
         /** Opens a text beside the trace that is open. */
@@ -132,7 +186,7 @@
         showTraces() {
             clearTimeout(this.work);
             this.hasAll = false;
-            this.screen.showTraces(this.shown, this.active, this.last);
+            this.screen.showTraces(this.shown, this.active, this.first, this.last);
             this.shown.forEach((it) => (it.overviewTime = -Infinity));
             this.showOverviews();
             this.show(0);
@@ -244,7 +298,7 @@
                 if (this.together !== "cycle") {
                     this.cycle = this.open.cycle;
                 }
-                this.screen.showTraces(this.shown, this.active, this.last);
+                this.screen.showTraces(this.shown, this.active, this.first, this.last);
                 this.show(0);
             }
         }
@@ -253,7 +307,7 @@
         setTogether(name) {
             this.together = name;
             this.cycle = this.open.cycle;
-            this.screen.showTraces(this.shown, this.active, this.last);
+            this.screen.showTraces(this.shown, this.active, this.first, this.last);
             this.align();
             this.show(0);
         }
@@ -269,12 +323,13 @@
          * The cycle at which a trace is beside the active one: the same, or that of the last event
          * which the active one has had, counted from the beginning of each.
          */
-        cycleBeside({ history, last }) {
+        cycleBeside({ history, first, last }) {
             if (this.together === "cycle") {
                 return this.cycle;
             }
-            const number = viewer.countUpTo(this.history.overview[this.together], this.open.cycle);
-            return number === 0 ? 0 : (viewer.indexOfEvent(history.overview[this.together], number) ?? last);
+            const number = viewer.countUpTo(this.history.overview[this.together], this.open.cycle - this.open.first);
+            const index = number === 0 ? 0 : viewer.indexOfEvent(history.overview[this.together], number);
+            return index === null ? last : first + index;
         }
 
         /**
@@ -293,7 +348,7 @@
         /** Goes where an address leads. What isn't worked out yet is tried again later. */
         follow(address) {
             const { cycle, request, act } = address;
-            const { last, history } = this.open;
+            const { first, last, history } = this.open;
             const found = request && this.open.findRequest(request);
             const foundAct = act && this.open.findAct({ cycle: act[0], module: act[1] });
             if (found ?? foundAct) {
@@ -307,8 +362,8 @@
                     viewer.revealStory(this.pane);
                 }
             }
-            if (cycle > last) {
-                this.screen.say(`There is no cycle ${cycle}: the last is ${last}.`);
+            if (cycle > last || cycle < first) {
+                this.screen.say(`There is no cycle ${cycle}: ${first > 0 ? `the first is ${first}, and ` : ""}the last is ${last}.`);
             }
             if (this.open && history.isDone) {
                 this.sayMissing(this.address);
@@ -327,7 +382,7 @@
 
         goTo(cycle, duration = this.duration()) {
             this.screen.say("");
-            this.cycle = Math.max(0, Math.min(this.last, cycle));
+            this.cycle = Math.max(this.first, Math.min(this.last, cycle));
             this.side.goTo(this.cycle);
             this.align();
             this.hasAll = false;
@@ -343,7 +398,7 @@
         /** Goes so many cycles on, and answers whether there was such a cycle. */
         stepBy(count) {
             const cycle = this.cycle + count;
-            if (cycle < 0 || cycle > this.last) {
+            if (cycle < this.first || cycle > this.last) {
                 return false;
             }
             this.goTo(cycle);
@@ -412,7 +467,7 @@
                     return;
                 }
                 if (side === this.side) {
-                    this.screen.showCycle(side.open, { ...view, hasAll: this.hasAll }, this.cycle, this.last);
+                    this.screen.showCycle(side.open, { ...view, hasAll: this.hasAll }, this.cycle, this.first, this.last);
                 }
             }
             this.screen.showTitles(this.shown, this.active);

@@ -33,28 +33,42 @@
     }
 
     /**
-     * A cell on which nobody has acted. Only when all is worked out it is known that nobody does
-     * later, so that the cell has the value of the end from the beginning.
+     * The value before a cell's first act, or undefined where it isn't known. A whole trace shows it
+     * by that act, unless it is a store; the settings name it, too. A part doesn't know it, nor
+     * the value of a cell on which nobody acts in it, unless it goes on to the end of the run.
      */
-    function untouched(history, cell) {
-        return { first: history.isDone ? history.endValues.get(cell) : undefined, acts: [] };
+    function valueBefore(history, cell, settings) {
+        const { first, isToEnd } = history.trace;
+        const known = history.cells.get(cell);
+        if (settings && first === 0) {
+            return settings.initial.get(cell) ?? 0;
+        }
+        if (known) {
+            return first === 0 ? known.first : null;
+        }
+        if (!history.isDone) {
+            return undefined;
+        }
+        return isToEnd || first === 0 && history.trace.part === null ? history.endValues.get(cell) : null;
     }
 
     /**
-     * The cells whose value after the cycle is known and isn't 0, by number. A cell on which nobody
-     * acts keeps the value of the end. One that is stored to first isn't known until then. Nothing
-     * is known after a cycle that isn't worked out yet.
+     * The cells whose value after the cycle isn't 0, by number; in a part, one that isn't known has
+     * the value null. A cell on which nobody acts keeps the value of the end. In a whole trace one
+     * that is stored to first is left out until then. Nothing is known after a cycle that isn't
+     * worked out yet.
      */
-    function cellsAt(history, cycle) {
+    function cellsAt(history, cycle, settings = null) {
         if (cycle >= history.cycles) {
             return [];
         }
+        const isPart = history.trace.part !== null;
         const found = [];
         for (const cell of cellsOf(history)) {
-            const { first, acts } = history.cells.get(cell) ?? untouched(history, cell);
+            const acts = history.cells.get(cell)?.acts ?? [];
             const act = lastAct(acts, cycle);
-            const value = act ? act.now : first;
-            if (value) {
+            const value = act ? act.now : valueBefore(history, cell, settings);
+            if (value || (isPart && value === null)) {
                 found.push({ cell, value, isNew: act?.cycle === cycle });
             }
         }
@@ -67,7 +81,7 @@
             return "Not worked out yet.";
         }
         const known = history.isDone ? "the trace says" : "the trace is worked out";
-        return `Every cell is 0, as far as ${known}.`;
+        return history.trace.part ? `No cell is known to have a value, as far as ${known}.` : `Every cell is 0, as far as ${known}.`;
     }
 
     Object.assign(viewer, { cellsAt, noCellsText });

@@ -120,7 +120,7 @@
 
         /** The values of a module's cells, as far as there is room for them. */
         valuesOf(cells, box) {
-            const text = cells.map(({ cell, value }) => `[${cell}] = ${value}`).join("  ");
+            const text = cells.map(({ cell, value }) => `[${cell}] = ${value ?? "?"}`).join("  ");
             const most = Math.floor((box.w - 64) / VALUE_CHARACTER);
             const short = text.length > most ? `${text.slice(0, most - 1)}…` : text;
             const classes = cells.some((it) => it.isNew) ? "values new" : "values";

@@ -40,7 +40,7 @@
     }
 
     function connectCycles(app) {
-        onClick("first", () => app.goTo(0));
+        onClick("first", () => app.goTo(app.first));
         onClick("back", () => app.stepBy(-1));
         onClick("play", () => app.player.toggle());
         onClick("forward", () => app.stepBy(1));
@@ -172,6 +172,7 @@
         });
         byId("entries-box").addEventListener("toggle", () => app.open && app.show(0));
         onClick("close-story", () => app.closeStory());
+        onChange("chosen-pe", () => app.show(0));
         onClick("close-beside", () => app.closeBeside());
         onChange("together", (field) => app.setTogether(field.value));
     }
@@ -189,7 +190,7 @@
             ArrowRight: () => app.stepBy(1),
             ArrowLeft: () => app.stepBy(-1),
             " ": () => app.player.toggle(),
-            Home: () => app.goTo(0),
+            Home: () => app.goTo(app.first),
             End: () => app.goTo(app.last),
             a: () => app.goToEvent("act", 0, direction),
             c: () => app.goToEvent("combination", 0, direction),

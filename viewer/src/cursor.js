@@ -18,6 +18,8 @@
             this.line = undefined;
             /** Whether the text was cut off there. */
             this.isCut = false;
+            /** Whether it is a good text that belongs to another trace. */
+            this.isMisfit = false;
             /** The cycle, and the line in it, of a fault that the rules of the machine found. */
             this.cycle = 0;
             this.lineInCycle = 0;

@@ -2,9 +2,10 @@
 (function (viewer) {
     "use strict";
 
-    /** Different numbers, the least first. */
-    function sorted(cycles) {
-        return [...new Set(cycles)].sort((a, b) => a - b);
+    /** Different cycles of a trace, the least first. What was before a part is in none of them. */
+    function sorted(history, cycles) {
+        const { first } = history.trace;
+        return [...new Set(cycles)].filter((it) => it >= first).sort((a, b) => a - b);
     }
 
     function cyclesOfRequests(requests) {
@@ -14,7 +15,7 @@
     /** Issues, combinations, acts and answers of a cell. */
     function cyclesOfCell(history, cell) {
         const ofCell = (it) => it.cell === cell;
-        return sorted([
+        return sorted(history, [
             ...cyclesOfRequests(history.requests.filter(ofCell)),
             ...history.pairs.filter(ofCell).map((it) => it.cycle),
             ...history.acts.filter(ofCell).map((it) => it.cycle),
@@ -33,7 +34,7 @@
             return tree.act ? [...cycles, tree.act.cycle] : cycles;
         });
         const faults = history.faults.filter((it) => it.pe === pe).map((it) => it.cycle);
-        return sorted([...cyclesOfRequests(requests), ...inTrees, ...faults]);
+        return sorted(history, [...cyclesOfRequests(requests), ...inTrees, ...faults]);
     }
 
     /**
@@ -43,9 +44,9 @@
     function cyclesOf(history, sort, number) {
         switch (sort) {
             case "act":
-                return sorted(history.acts.map((it) => it.cycle));
+                return sorted(history, history.acts.map((it) => it.cycle));
             case "combination":
-                return sorted(history.pairs.map((it) => it.cycle));
+                return sorted(history, history.pairs.map((it) => it.cycle));
             case "cell":
                 return cyclesOfCell(history, number);
             default:

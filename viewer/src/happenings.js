@@ -72,6 +72,16 @@
         ]);
     }
 
+    /** The sentences of a cycle of which it isn't known what moved in it. */
+    function startSentences(history, cycle) {
+        if (cycle.number === history.trace.first && cycle.number > 0) {
+            const unknown = ["This part begins with this cycle, so what moved, combined or was issued in it isn't known"];
+            const answers = cycle.got.map((it) => [`PE ${it.pe} gets ${answerText(it.value)} for cell ${it.cell}`]);
+            return [unknown, ...answers, ...acts(cycle), ...faults(cycle)];
+        }
+        return [["The text was cut off in this cycle, so lines of it may be missing"]];
+    }
+
     /**
      * The sentences of a cycle, in the order of its phases. Where the text was cut off in it,
      * `step` is null.
@@ -79,7 +89,7 @@
     function sentencesOf(history, cycle, step) {
         const { number } = cycle;
         if (!step) {
-            return [["The text was cut off in this cycle, so lines of it may be missing."]];
+            return startSentences(history, cycle);
         }
         return [
             ...deliveries(history, cycle),
@@ -94,7 +104,10 @@
 
     /** How many requests and replies moved, in words. */
     function movesText(step) {
-        const moves = step?.moves ?? [];
+        if (!step) {
+            return "What moved isn't known.";
+        }
+        const { moves } = step;
         const replies = moves.filter((it) => "value" in it.message);
         const requests = moves.length - replies.length;
         // a reply that is split on its way is one that moved

@@ -44,7 +44,8 @@
     class History {
         constructor(trace) {
             this.trace = trace;
-            this.cycles = 0;
+            /** The first cycle that isn't worked out yet. */
+            this.cycles = trace.first;
             this.shape = new Shape();
             this.requests = [];
             this.pairs = [];
@@ -52,7 +53,8 @@
             this.faults = [];
             this.requestsOfPe = Array.from({ length: trace.net.size }, () => []);
             this.cells = new Map();
-            this.state = emptyCycle(-1);
+            /** @type {CycleText | null} */
+            this.state = trace.before(trace.first);
             this.overview = new viewer.Overview(trace.count);
             /** The tree of each request that is on its way to memory, by its identity. */
             this.trees = new Map();
@@ -61,20 +63,20 @@
         }
 
         get isDone() {
-            return this.cycles === this.trace.count;
+            return this.cycles > this.trace.last;
         }
 
         /** Works out so many cycles more. Throws a Fault with its line. */
         advance(count) {
-            const last = Math.min(this.trace.count, this.cycles + count);
-            while (this.cycles < last) {
+            const end = Math.min(this.trace.last + 1, this.cycles + count);
+            while (this.cycles < end) {
                 const cycle = this.trace.read(this.cycles);
                 this.shape.note(cycle);
                 this.absorb(cycle);
                 this.state = cycle;
                 this.cycles += 1;
             }
-            if (this.isDone && this.trace.end) {
+            if (this.isDone && this.trace.isToEnd) {
                 this.checkEnd();
             }
         }
@@ -82,6 +84,7 @@
         absorb(cycle) {
             const step = stepInTrace(this.trace, this.state, cycle);
             if (!step) {
+                this.absorbAlone(cycle);
                 return;
             }
             cycle.got.forEach((it) => this.answer(it, cycle.number));
@@ -92,8 +95,20 @@
             this.noteNumbers(cycle, step);
         }
 
+        /**
+         * Takes up a cycle of which it isn't known what moved: the first of a part, or the last of a
+         * text that was cut off.
+         */
+        absorbAlone(cycle) {
+            if (cycle.number === this.trace.first && this.trace.first > 0) {
+                viewer.beginPart(this, cycle);
+                const nothing = { combinations: [], issues: [] };
+                this.noteNumbers(cycle, nothing);
+            }
+        }
+
         noteNumbers(cycle, step) {
-            this.overview.note(cycle.number, {
+            this.overview.note(cycle.number - this.trace.first, {
                 open: this.open.size,
                 combined: step.combinations.length,
                 acts: cycle.acts.length,
@@ -102,13 +117,23 @@
             });
         }
 
+        /** A request in a part that begins later has no number: how many came before isn't known. */
+        numberOf(pe) {
+            return this.trace.first > 0 ? null : this.requestsOfPe[pe].length;
+        }
+
         issue({ pe, cell, kind, word }, cycle) {
-            const number = this.requestsOfPe[pe].length;
+            const number = this.numberOf(pe);
             const later = { parent: null, act: null, answered: null, value: null };
             const request = { pe, number, cell, kind, word, issued: cycle, ...later };
-            this.requests.push(request);
-            this.requestsOfPe[pe].push(request);
+            this.add(request);
             this.trees.set(identityOf(request), request);
+        }
+
+        /** A request that is open now. */
+        add(request) {
+            this.requests.push(request);
+            this.requestsOfPe[request.pe].push(request);
             this.open.set(identityOf(request), request);
         }
 

@@ -59,7 +59,11 @@
         return { pe, cell, giveOld, partner, giveNew: readGive(cursor) };
     }
 
+    /** What a request asks for; where that isn't known its kind is null. */
     function operationText(request) {
+        if (request.kind === null) {
+            return "?";
+        }
         return request.kind === "load" ? "load" : `${request.kind} ${request.word}`;
     }
 
@@ -69,7 +73,7 @@
     }
 
     function answerText(value) {
-        return value === null ? "ack" : `${value}`;
+        return value === null ? "ack" : `${value ?? "?"}`;
     }
 
     function replyText(reply) {

@@ -2,7 +2,7 @@
 (function (viewer) {
     "use strict";
 
-    const { Trace, History, stepInTrace, visibleUnits, cellsAt, leavesOf, carrierAt } = viewer;
+    const { Trace, History, Execution, stepInTrace, visibleUnits, cellsAt, leavesOf, carrierAt } = viewer;
     const SMALL_BYTES = 3_000_000;
     /** So many cycles of a large trace are worked out before it is shown. */
     const FIRST_CYCLES = 200;
@@ -31,15 +31,20 @@
             this.trace = new Trace(bytes);
             this.history = new History(this.trace);
             this.history.advance(bytes.length < SMALL_BYTES ? this.trace.count : FIRST_CYCLES);
-            this.cycle = 0;
+            this.cycle = this.trace.first;
+            this.execution = new Execution(this.history);
             /** The request or the act whose story is shown, or null. */
             this.selected = null;
             this.layoutCount = 0;
             this.fixShape();
         }
 
+        get first() {
+            return this.trace.first;
+        }
+
         get last() {
-            return this.trace.count - 1;
+            return this.trace.last;
         }
 
         /**
@@ -52,7 +57,7 @@
 
         /** Goes to a cycle, or to the one nearest to it. */
         goTo(cycle) {
-            this.cycle = Math.max(0, Math.min(this.last, cycle));
+            this.cycle = Math.max(this.first, Math.min(this.last, cycle));
         }
 
         /** Works out more of the history, for so many milliseconds. Throws a Fault with its line. */
@@ -70,12 +75,23 @@
             return Number(isAhead) + Number(isOpen);
         }
 
+        /** Whether a text without an end has all lines of its last cycle: then the rules allow it. */
+        get isLastWhole() {
+            const { trace, last } = this;
+            return trace.before(last) !== null && stepInTrace(trace, trace.before(last), trace.cycle(last)) !== null;
+        }
+
+        /** Takes a text that belongs to the trace: settings, a program, or steps. */
+        take(sort, text) {
+            this.execution.take(sort, text);
+        }
+
         findAct({ cycle, module }) {
             return this.history.acts.find((it) => it.cycle === cycle && it.module === module);
         }
 
         findRequest([pe, number]) {
-            return this.history.requestsOfPe[pe]?.[number];
+            return this.history.requestsOfPe[pe]?.find((it) => it.number === number);
         }
 
         /** The cycles in which something of a sort happens, as far as that is worked out. */
@@ -100,7 +116,7 @@
                 trace, history, step, shape, form, cycle: found,
                 visible: form === "folded" ? visibleUnits(trace.net, found, step) : null,
                 layoutKey: `${this.layoutCount} ${form}`,
-                cells: cellsAt(history, cycle),
+                cells: cellsAt(history, cycle, this.execution.settings),
                 arrivals: arrivalsOf(step),
                 request: this.selected?.request,
                 selectedAct: this.selected?.act,

@@ -10,10 +10,18 @@
     function tracesInPage() {
         /** @type {NodeListOf<HTMLElement>} */
         const found = document.querySelectorAll("script[type='application/json'][data-trace]");
-        return [...found].map((it) => ({
-            name: it.dataset.trace,
-            bytes: () => new TextEncoder().encode(JSON.parse(it.textContent)),
-        }));
+        return [...found].map((it) => ({ name: it.dataset.trace, bytes: () => bytesOf(it) }));
+    }
+
+    function bytesOf(element) {
+        return new TextEncoder().encode(JSON.parse(element.textContent));
+    }
+
+    /** The texts of the page that belong to a trace of it: its program, its settings, its steps. */
+    function textsOf(trace) {
+        /** @type {NodeListOf<HTMLElement>} */
+        const found = document.querySelectorAll("script[type='application/json'][data-of]");
+        return [...found].filter((it) => it.dataset.of === trace).map((it) => ({ name: it.dataset.text, bytes: bytesOf(it) }));
     }
 
     /**
@@ -27,26 +35,29 @@
     }
 
     /**
-     * Opens a file. One that is opened again stays at its cycle, and the first goes where the
+     * Opens files. A trace that is opened again stays at its cycle, and the first goes where the
      * address leads.
      */
-    async function openFile(app, file) {
-        if (!file) {
+    async function openFiles(app, files) {
+        if (files.length === 0) {
             return;
         }
         const isNewest = beginOpening();
-        const isSame = !app.open || app.name === file.name;
+        const names = files.map((it) => it.name);
+        const isSame = !app.open || names.includes(app.name);
         const address = isSame ? viewer.readAddress(location.hash) : {};
-        app.screen.say(`Reading ${file.name} …`);
+        app.screen.say(`Reading ${names.join(", ")} …`);
+        const read = (file) => file.arrayBuffer().then((bytes) => ({ name: file.name, bytes: new Uint8Array(bytes) }));
         const complain = (error) => {
             if (isNewest()) {
-                app.screen.say(`${file.name} can't be read: ${error.message}`);
+                app.screen.say(`${names.join(", ")} can't be read: ${error.message}`);
             }
         };
-        const bytes = await file.arrayBuffer().catch(complain);
-        if (bytes && isNewest()) {
+        const found = await Promise.all(files.map(read)).catch(complain);
+        if (found && isNewest()) {
+            app.screen.say("");
             app.isListed = false;
-            app.openText(file.name, new Uint8Array(bytes), address);
+            app.openFiles(found, address);
         }
     }
 
@@ -65,7 +76,7 @@
         app.isListed = true;
         fieldOf("traces").value = found.name;
         fieldOf("besides").value = "";
-        app.openText(found.name, found.bytes(), address);
+        app.openFiles([{ name: found.name, bytes: found.bytes() }, ...textsOf(found.name)], address);
         openListedBeside(app, traces, address.beside);
         const lacking = [address.trace, address.beside].find((it) => it && !traces.some(({ name }) => name === it));
         if (app.open && lacking) {
@@ -90,7 +101,7 @@
 
     function connectFiles(app) {
         byId("file").addEventListener("change", () => {
-            openFile(app, fieldOf("file").files[0]);
+            openFiles(app, [...fieldOf("file").files]);
             fieldOf("file").value = "";
         });
         byId("file-beside").addEventListener("change", () => {
@@ -105,7 +116,7 @@
         addEventListener("drop", (event) => {
             event.preventDefault();
             document.body.classList.remove("dropping");
-            openFile(app, event.dataTransfer.files[0]);
+            openFiles(app, [...event.dataTransfer.files]);
         });
     }
 

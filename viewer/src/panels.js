@@ -88,7 +88,7 @@
 
     function orderRow(entry, actions) {
         const name = link(nameOf(entry.request), () => actions.showRequest(entry.request));
-        return { attributes: {}, columns: [[name], [html("code", {}, viewer.orderLine(entry))], [`${entry.now}`]] };
+        return { attributes: {}, columns: [[name], [html("code", {}, viewer.orderLine(entry))], [`${entry.now ?? "?"}`]] };
     }
 
     function actPanel(element, act, actions) {
@@ -109,7 +109,7 @@
     function cellItem({ cell, value, isNew }) {
         const { colour, sign } = viewer.styleOf(cell);
         const mark = html("span", { class: `sign ${colour}`, "aria-hidden": "true" }, sign);
-        return html("li", isNew ? { class: "new" } : {}, mark, ` cell ${cell}: ${value}`);
+        return html("li", isNew ? { class: "new" } : {}, mark, ` cell ${cell}: ${value ?? "unknown"}`);
     }
 
     function cellsPanel(element, view, actions) {

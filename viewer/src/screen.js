@@ -19,18 +19,38 @@
         }
     }
 
-    function endingText(trace) {
-        if (trace.cut) {
-            const end = `The text was cut off after its line ${trace.cut.lines}.`;
-            const guess = `${trace.net.size} is a guess from the places that occur.`;
-            return `${end} Its end would name the number of PEs; ${guess}`;
+    /** Where a text was cut off: in a line, in a cycle, in its end, or before it. */
+    function cutText({ trace, isLastWhole }) {
+        const { lines, isInLine, isInCycle } = trace.cut;
+        const guess = `Its end would name the number of PEs; ${trace.net.size} is a guess from the places that occur.`;
+        if (isInLine) {
+            return `The text was cut off in the middle of its line ${lines + 1}. ${guess}`;
         }
-        return trace.end.isQuiet ? "It ends quiet." : "It ends at its limit on cycles.";
+        if (!isInCycle) {
+            return `The text was cut off in its end, after its line ${lines}. ${guess}`;
+        }
+        const inCycle = `The text was cut off in cycle ${trace.last}, after its line ${lines}.`;
+        const behind = `The text was cut off after cycle ${trace.last}: it has no end.`;
+        return `${isLastWhole ? behind : inCycle} ${guess}`;
     }
 
-    function factsText({ name, trace }) {
+    function endingText(open) {
+        const { trace } = open;
+        if (trace.cut) {
+            return cutText(open);
+        }
+        const how = trace.end.isQuiet ? "ends quiet" : "ends at its limit on cycles";
+        if (!trace.part) {
+            return `It ${how}.`;
+        }
+        return trace.isToEnd ? `It goes to the end of the run, which ${how}.` : `The run ${how}, in this part's last cycle or later.`;
+    }
+
+    function factsText(open) {
+        const { name, trace } = open;
         const cycles = `${trace.count} ${trace.count === 1 ? "cycle" : "cycles"}`;
-        return `${name}: ${cycles}, ${trace.net.size} PEs. ${endingText(trace)}`;
+        const part = trace.part ? `a part, cycles ${trace.first} to ${trace.last}` : cycles;
+        return `${name}: ${part}, ${trace.net.size} PEs. ${endingText(open)}`;
     }
 
     /** Marks a button that does nothing. The attribute `disabled` would take the focus from it. */
@@ -86,7 +106,7 @@
         }
 
         /** What the traces are, and how far they go. The texts are those of the active one. */
-        showTraces(sides, active, last) {
+        showTraces(sides, active, first, last) {
             const { open } = sides[active];
             const { trace } = open;
             byId("welcome").hidden = true;
@@ -95,6 +115,7 @@
             byId("together-choice").hidden = sides.length < 2;
             byId("close-beside").hidden = sides.length < 2;
             for (const id of ["cycle", "slider"]) {
+                fieldOf(id).min = `${first}`;
                 fieldOf(id).max = `${last}`;
             }
             byId("of").textContent = `of ${last}`;
@@ -117,7 +138,8 @@
         /** How far a long trace is worked out. It isn't spoken, since it changes all the time. */
         showProgress(traces) {
             const found = traces.find((it) => !it.history.isDone);
-            const part = found && Math.floor((100 * found.history.cycles) / found.trace.count);
+            const done = found && found.history.cycles - found.trace.first;
+            const part = found && Math.floor((100 * done) / found.trace.count);
             const far = `Stories, events and cells are worked out up to cycle ${found?.history.cycles} (${part} %).`;
             byId("progress").textContent = found ? far : "";
         }
@@ -129,22 +151,23 @@
         }
 
         /** Shows the cycle that a trace is at, and the cycle of the page that may be after its end. */
-        showCycle(open, view, cycle, last) {
-            this.showControls(cycle, last);
+        showCycle(open, view, cycle, first, last) {
+            this.showControls(cycle, first, last);
             byId("cycle-name").textContent = open.cycle;
             keepFocus(() => this.showTexts(open, view));
         }
 
-        showControls(cycle, last) {
+        showControls(cycle, first, last) {
             fieldOf("cycle").value = cycle;
             fieldOf("slider").value = cycle;
             byId("slider").setAttribute("aria-valuetext", `cycle ${cycle} of ${last}`);
-            [byId("first"), byId("back")].forEach((it) => setDisabled(it, cycle === 0));
+            [byId("first"), byId("back")].forEach((it) => setDisabled(it, cycle === first));
             [byId("last"), byId("forward")].forEach((it) => setDisabled(it, cycle === last));
         }
 
-        showTexts({ trace, cycle, last, selected }, view) {
+        showTexts({ trace, cycle, last, selected, execution }, view) {
             const { actions } = this;
+            this.showProgram(execution, cycle);
             viewer.happeningsPanel(byId("happenings"), view, actions);
             viewer.cellsPanel(byId("cells"), view, actions);
             const box = /** @type {HTMLDetailsElement} */ (byId("entries-box"));
@@ -164,10 +187,28 @@
             setText(byId("announcement"), `Cycle ${cycle}. ${spoken.join(" ")}`);
         }
 
+        /** The program, the registers of a PE, and the settings, as far as their texts are open. */
+        showProgram(execution, cycle) {
+            const { steps, program, settings, trace } = execution;
+            byId("program-box").hidden = !steps && !program;
+            byId("registers").hidden = !steps;
+            byId("settings-text").hidden = !settings;
+            byId("settings-text").textContent = settings ? viewer.settingsText(settings) : "";
+            const pe = Math.min(Number(fieldOf("chosen-pe").value) || 0, trace.net.size - 1);
+            fieldOf("chosen-pe").max = `${trace.net.size - 1}`;
+            if (steps || program) {
+                viewer.listingPanel(byId("listing"), execution, cycle, steps ? pe : null);
+            }
+            if (steps) {
+                viewer.registersPanel(byId("registers"), execution, cycle, pe);
+            }
+        }
+
         /** The next event that is looked for is one of the cell or of the PE of this request. */
         chooseEvents(request) {
             if (request) {
                 fieldOf("event-number").value = fieldOf("event-sort").value === "pe" ? request.pe : request.cell;
+                fieldOf("chosen-pe").value = request.pe;
             }
         }
 

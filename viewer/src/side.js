@@ -71,7 +71,7 @@
             const now = performance.now();
             if (history.isDone || now - this.overviewTime >= OVERVIEW_MILLISECONDS) {
                 this.overviewTime = now;
-                this.strip.show(name, history.overview, 0, length);
+                this.strip.show(name, history.overview, this.open.first, length);
             }
         }
     }

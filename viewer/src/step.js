@@ -335,16 +335,19 @@
 
     /**
      * What happens in a cycle of a trace. The last cycle of a text that was cut off may lack lines:
-     * then the answer is null. Else a fault has its line.
+     * then the answer is null, and so it is in the first cycle of a part. Else a fault has its line.
      */
     function stepInTrace(trace, before, cycle) {
+        if (before === null) {
+            return null;
+        }
         try {
             return stepOf(trace.net, before, cycle);
         } catch (fault) {
             if (!(fault instanceof viewer.Fault)) {
                 throw fault;
             }
-            if (trace.cut?.isInCycle && cycle.number === trace.count - 1) {
+            if (trace.cut?.isInCycle && cycle.number === trace.last) {
                 return null;
             }
             fault.line = trace.line(fault.cycle) + fault.lineInCycle;

@@ -50,6 +50,9 @@
     /** What happens to a request in a cycle, in words, or nothing. */
     function happeningsOf(history, request, number) {
         const found = [];
+        if (request.isBefore && number === history.trace.first) {
+            found.push("it was issued before this part, or in its first cycle");
+        }
         if (number === request.issued) {
             found.push(`PE ${request.pe} issues it`);
         }
@@ -116,7 +119,7 @@
     function storyOf(history, request) {
         const { trace } = history;
         const rows = [];
-        for (let number = request.issued; number <= lastCycleOf(history, request); number++) {
+        for (let number = Math.max(request.issued, trace.first); number <= lastCycleOf(history, request); number++) {
             const where = number === request.answered ? null : whereIs(trace, request, number);
             const happenings = happeningsOf(history, request, number);
             const last = rows.at(-1);
@@ -141,12 +144,12 @@
         if (answered !== null) {
             return `Its answer is ${viewer.answerText(value)}.`;
         }
-        return history.isDone ? "It isn't answered in this trace." : "Its answer isn't worked out yet.";
+        return history.isDone ? `It isn't answered in this ${history.trace.part ? "part" : "trace"}.` : "Its answer isn't worked out yet.";
     }
 
     /** Why no act is known that served a request. */
     function noActSentence(history) {
-        return history.isDone ? "It isn't served in this trace." : "Its act isn't worked out yet.";
+        return history.isDone ? `It isn't served in this ${history.trace.part ? "part" : "trace"}.` : "Its act isn't worked out yet.";
     }
 
     /**

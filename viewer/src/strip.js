@@ -90,13 +90,18 @@
             context.globalAlpha = 1;
         }
 
+        /** Whether a number is known: how many requests combined in a part's first cycle isn't. */
+        isKnownIn(name, index) {
+            return name !== "combined" || index > 0 || this.first === 0;
+        }
+
         /** Marks a cycle, and says its numbers. Those that aren't worked out yet are left out. */
         goTo(cycle, isKnown) {
             const index = cycle - this.first;
             this.mark.style.left = `${(100 * index) / this.length}%`;
             this.mark.style.width = `max(3px, ${100 / this.length}%)`;
             for (const [name, element] of this.numbers) {
-                element.textContent = isKnown ? this.overview[name][index] : "?";
+                element.textContent = isKnown && this.isKnownIn(name, index) ? this.overview[name][index] : "?";
             }
         }
     }

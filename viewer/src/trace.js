@@ -5,9 +5,12 @@
 
     const { Cursor, Fault, Net, MOST_STAGES, emptyCycle, readCycle, readEnd, traceIndex } = viewer;
     const HEAD = "ultra trace 2\n";
+    const MOST_CYCLE = 1_000_000;
+    const WORDS_OF_PART = ["all", "events", "end"];
     /** So many bytes of a text that was cut off decide how large its machine is taken to be. */
     const GUESS_BYTES = 2_000_000;
     const KEPT_CYCLES = 64;
+    const NEWLINE = 10;
 
     function lineAt(bytes, at) {
         let line = 1;
@@ -28,20 +31,58 @@
             this.end = null;
             this.cut = null;
             this.withLine(() => {
-                new Cursor(bytes).take(HEAD);
-                this.index = traceIndex(bytes);
+                const cursor = new Cursor(bytes);
+                cursor.take(HEAD);
+                this.part = this.readPart(cursor);
+                this.body = cursor.at;
+                this.index = traceIndex(bytes, this.body, this.part ? 2 : 1);
                 this.checkStart();
                 this.dropCutCycle();
                 this.readEnd();
                 this.net = this.end ? this.netOfEnd() : this.guessedNet();
                 this.isGuess = this.end === null || this.end.pes.length !== this.net.size;
-                this.noteCut();
+                this.noteCut(bytes.at(-1) !== NEWLINE);
             });
         }
 
         /** The number of cycles of which the text has at least the first line. */
         get count() {
             return this.index.offsets.length;
+        }
+
+        /** The number of the first cycle: not 0 in a part that begins later. */
+        get first() {
+            return this.part?.from ?? 0;
+        }
+
+        get last() {
+            return this.first + this.count - 1;
+        }
+
+        /** Whether the last cycle of the text is the last of the run. */
+        get isToEnd() {
+            return this.end !== null && (this.part === null || this.last < this.part.to);
+        }
+
+        /**
+         * Reads the line `part A B WORD`, if it is next: which cycles of the run were asked for. A
+         * part without the state of its cycles can't be shown.
+         */
+        readPart(cursor) {
+            if (!cursor.takes("part ")) {
+                return null;
+            }
+            const from = cursor.number(MOST_CYCLE, "the number of a cycle");
+            cursor.take(" ");
+            const to = cursor.number(MOST_CYCLE, "the number of a cycle");
+            cursor.take(" ");
+            const start = cursor.at;
+            const word = WORDS_OF_PART[cursor.takeOneOf(WORDS_OF_PART, "'all', 'events' or 'end'")];
+            cursor.take("\n");
+            if (word !== "all") {
+                cursor.fail(`a part with its whole state (--only all): one with --only ${word} has nothing to draw`, start);
+            }
+            return { from, to };
         }
 
         /** Reads; a fault gets its line, and whether the text was cut off there. */
@@ -70,8 +111,11 @@
 
         /** The text has at least the line of cycle 0, right after its head. */
         checkStart() {
-            const cursor = new Cursor(this.bytes, HEAD.length);
-            cursor.take("cycle 0");
+            const cursor = new Cursor(this.bytes, this.body);
+            if (this.part && cursor.takes("end ")) {
+                cursor.fail(`cycle ${this.first}: this part has no cycle, since the run ended before it`, this.body);
+            }
+            cursor.take(`cycle ${this.first}`);
             cursor.take("\n");
         }
 
@@ -83,21 +127,21 @@
                 return;
             }
             const cursor = new Cursor(this.bytes, last);
-            this.unlessCut(() => readCycle(cursor, this.bytes.length, null, emptyCycle(offsets.length - 1)));
+            this.unlessCut(() => readCycle(cursor, this.bytes.length, null, emptyCycle(this.last)));
             offsets.length -= 1;
             this.bytes = this.bytes.subarray(0, last);
         }
 
         offset(cycle) {
-            return this.index.offsets.list[cycle];
+            return this.index.offsets.list[cycle - this.first];
         }
 
         line(cycle) {
-            return this.index.lines.list[cycle];
+            return this.index.lines.list[cycle - this.first];
         }
 
         offsetAfter(cycle) {
-            return cycle + 1 < this.count ? this.offset(cycle + 1) : (this.index.end?.offset ?? this.bytes.length);
+            return cycle < this.last ? this.offset(cycle + 1) : (this.index.end?.offset ?? this.bytes.length);
         }
 
         /**
@@ -150,7 +194,7 @@
         }
 
         fits(net) {
-            for (let cycle = 0; cycle < this.count && this.offset(cycle) < GUESS_BYTES; cycle++) {
+            for (let cycle = this.first; cycle <= this.last && this.offset(cycle) < GUESS_BYTES; cycle++) {
                 try {
                     this.read(cycle, net);
                 } catch (fault) {
@@ -167,9 +211,10 @@
          * Where the text was cut off: its number of whole lines, and whether the last cycle may
          * lack some.
          */
-        noteCut() {
+        noteCut(isInLine) {
             if (this.isGuess) {
-                this.cut = { lines: lineAt(this.bytes, this.bytes.length) - 1, isInCycle: this.index.end === null };
+                const lines = lineAt(this.bytes, this.bytes.length) - 1;
+                this.cut = { lines, isInCycle: this.index.end === null, isInLine };
                 this.end = null;
             }
         }
@@ -193,9 +238,15 @@
             return kept;
         }
 
-        /** The state before a cycle: that after the one before it, or the empty machine. */
+        /**
+         * The state before a cycle: that after the one before it, or the empty machine. Before the first
+         * cycle of a part it isn't known, and is null.
+         */
         before(number) {
-            return number === 0 ? emptyCycle(-1) : this.cycle(number - 1);
+            if (number === this.first) {
+                return number === 0 ? emptyCycle(-1) : null;
+            }
+            return this.cycle(number - 1);
         }
 
         /** A cycle's lines, as they are in the text. */
@@ -207,8 +258,9 @@
 
     /** The text of a whole trace, written from what was read. */
     function traceText(trace) {
-        const cycles = Array.from({ length: trace.count }, (_, cycle) => viewer.cycleText(trace.read(cycle)));
-        return [HEAD, ...cycles, trace.end ? viewer.endText(trace.end) : ""].join("");
+        const cycles = Array.from({ length: trace.count }, (_, index) => viewer.cycleText(trace.read(trace.first + index)));
+        const part = trace.part ? `part ${trace.part.from} ${trace.part.to} all\n` : "";
+        return [HEAD, part, ...cycles, trace.end ? viewer.endText(trace.end) : ""].join("");
     }
 
     Object.assign(viewer, { Trace, traceText });

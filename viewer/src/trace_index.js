@@ -53,13 +53,13 @@
     }
 
     /**
-     * Offsets and line numbers of the cycles, and of the end, which is null where no line begins
+     * From an offset on, whose line is the one after this: offsets and line numbers of the cycles, and of the end, which is null where no line begins
      * with `e`.
      */
-    function traceIndex(bytes) {
+    function traceIndex(bytes, from, firstLine) {
         const index = { offsets: new Numbers(), lines: new Numbers(), greatest: new GreatestNumbers(), end: null };
-        let line = 1;
-        for (let at = bytes.indexOf(NEWLINE) + 1; at > 0 && at < bytes.length; ) {
+        let line = firstLine;
+        for (let at = from; at > 0 && at < bytes.length; ) {
             line += 1;
             if (bytes[at] === A_E) {
                 index.end = { offset: at, line };

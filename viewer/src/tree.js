@@ -9,9 +9,9 @@
         return "old" in tree;
     }
 
-    /** A request's name: its PE, and its number among the requests of that PE. */
+    /** A request's name: its PE, and its number among the requests of that PE, if that is known. */
     function nameOf(request) {
-        return `${request.pe}.${request.number}`;
+        return `${request.pe}.${request.number ?? "?"}`;
     }
 
     /** The leaves of a tree in serial order. A tree is at most as high as there are stages. */
@@ -60,9 +60,14 @@
 
     /**
      * The requests of an act in their serial order, each with its reply, from acting on the cell
-     * one by one.
+     * one by one. Where an operation isn't known, a reply is the answer that the PE got.
      */
     function replay(found) {
+        const leaves = leavesOf(found.tree);
+        if (leaves.some((it) => it.kind === null)) {
+            const replyOf = (it) => (it.answered === null ? undefined : it.value);
+            return leaves.map((request) => ({ request, reply: replyOf(request), now: undefined }));
+        }
         let value = found.value ?? 0;
         return leavesOf(found.tree).map((request) => {
             const { now, reply } = act(request, value);

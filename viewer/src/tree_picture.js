@@ -44,7 +44,7 @@
             const y = (points[0].y + points[1].y) / 2;
             points.forEach((it) => this.drawn.push(svg("path", { class: "branch", d: `M${it.x} ${it.y}H${x}V${y}` })));
             this.drawn.push(
-                svg("circle", { class: "branch", cx: x, cy: y, r: 3 }, svg("title", {}, `met in cycle ${tree.cycle}`)),
+                svg("circle", { class: "branch", cx: x, cy: y, r: 3 }, svg("title", {}, tree.kind === null ? "met before this part" : `met in cycle ${tree.cycle}`)),
                 svg("text", { class: "operation", x: x + 6, y: y - 4 }, operationText(tree)),
                 svg("text", { class: "where", x: x + 6, y: y + 11 }, `s${tree.stage}x${tree.position}`),
             );

@@ -34,7 +34,7 @@ for (const name of SHORT) {
 test("a text cut off in its last cycle says so, and how many lines it has", () => {
     const text = textOf(example("two_level_tree"), "expected");
     const cut = traceOf(text.slice(0, text.indexOf("wait 1 0")));
-    assert.deepEqual(cut.cut, { lines: text.slice(0, text.indexOf("wait 1 0")).split("\n").length - 1, isInCycle: true });
+    assert.deepEqual(cut.cut, { lines: text.slice(0, text.indexOf("wait 1 0")).split("\n").length - 1, isInCycle: true, isInLine: false });
     assert.equal(cut.end, null);
     assert.equal(cut.count, 5);
 });

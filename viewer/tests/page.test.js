@@ -41,7 +41,7 @@ test("a file that isn't a trace is refused, with nothing on standard output", ()
     fs.writeFileSync(wrong, "ultra trace 2\ncycle 0\n</script>é\n");
     for (const [file, message] of [
         [wrong, /line 3: expected ASCII/],
-        [path.join(example("combined_pair"), "prog.s"), /line 1: expected 'ultra trace 2'/],
+        [path.join(example("combined_pair"), "prog.s"), /there is no trace among these files/],
         [path.join(folder, "none"), /cannot read/],
     ]) {
         const ran = page(file);
@@ -49,6 +49,17 @@ test("a file that isn't a trace is refused, with nothing on standard output", ()
         assert.match(ran.stderr, message);
     }
     fs.rmSync(folder, { recursive: true });
+});
+
+test("a program and settings belong to the trace of their folder", () => {
+    const files = ["combined_pair", "two_level_tree"].flatMap((it) => ["prog.s", "expected", "conf.toml"].map((name) => path.join(example(it), name)));
+    const { stdout, status } = page(...files);
+    assert.equal(status, 0);
+    const found = [...stdout.matchAll(/data-text="([^"]*)" data-of="([^"]*)"/g)].map((it) => it.slice(1));
+    assert.deepEqual(found, ["combined_pair", "two_level_tree"].flatMap((it) => ["prog.s", "conf.toml"].map((name) => [`${it}/${name}`, `${it}/expected`])));
+    const ran = page(...files.slice(1), path.join(example("tickets"), "prog.s"));
+    assert.deepEqual([ran.status, ran.stdout], [3, ""]);
+    assert.match(ran.stderr, /tickets\/prog\.s: which trace it belongs to isn't clear/);
 });
 
 test("without a trace the usage is written", () => {

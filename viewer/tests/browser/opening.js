@@ -75,7 +75,7 @@ module.exports = async (checks) => {
         const tab = await checks.tab();
         await tab.choose(checks.file("cut", text.slice(0, text.indexOf("rep 1 1"))));
         await tab.wait("viewer.app.trace");
-        assert.match(await tab.text("#facts"), /^cut: 8 cycles, 4 PEs\. The text was cut off after its line \d+\. .* 4 is a guess/);
+        assert.match(await tab.text("#facts"), /^cut: 8 cycles, 4 PEs\. The text was cut off in cycle 7, after its line \d+\. .* 4 is a guess/);
         await tab.click("#last");
         assert.match(await tab.text("#happenings"), /The text was cut off in this cycle/);
         await checks.checkQuiet("a cut text", tab);

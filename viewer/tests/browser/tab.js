@@ -124,7 +124,7 @@ class Tab {
     async choose(file, selector = "#file") {
         const { root } = await this.send("DOM.getDocument");
         const { nodeId } = await this.send("DOM.querySelector", { nodeId: root.nodeId, selector });
-        await this.send("DOM.setFileInputFiles", { nodeId, files: [file] });
+        await this.send("DOM.setFileInputFiles", { nodeId, files: [file].flat() });
     }
 
     /**
