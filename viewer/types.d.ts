@@ -5,7 +5,8 @@
 type Place = number;
 
 interface Operation {
-    kind: "load" | "store" | "faa" | "swap";
+    /** Null where a part of a trace doesn't show it. */
+    kind: "load" | "store" | "faa" | "swap" | null;
     /** The word of a store, a fetch-and-add or a swap; 0 for a load. */
     word: number;
 }
@@ -59,7 +60,8 @@ interface CycleText {
 
 /** A request from issue to answer, as the history has it. */
 interface KnownRequest extends Identity, Operation {
-    number: number;
+    /** Null in a part of a trace, where it isn't known. */
+    number: number | null;
     issued: number;
     answered: number | null;
     value: number | null;

@@ -15,7 +15,11 @@
     READERS[WAIT] = viewer.readRecord;
     READERS[OUT] = READERS[REP] = viewer.readReply;
 
-    /** What a trace says of a cycle. `places` has a list for each place that isn't empty. */
+    /**
+     * What a trace says of a cycle. `places` has a list for each place that isn't empty.
+     * @param {number} number
+     * @returns {CycleText}
+     */
     function emptyCycle(number) {
         return { number, got: [], acts: [], faults: [], places: new Map() };
     }
@@ -130,10 +134,15 @@
         return `act ${module} ${viewer.requestText(request)} = ${viewer.answerText(value)} now ${now}`;
     }
 
+    /**
+     * @param {Place} place
+     * @param {Entry[]} list
+     */
     function placeLine(place, list) {
         return `${placeText(place)}: ${list.map(entryText).join(", ")}`;
     }
 
+    /** @param {CycleText} cycle */
     function cycleText(cycle) {
         const lines = [
             `cycle ${cycle.number}`,

@@ -76,20 +76,26 @@
         return value === null ? "ack" : `${value ?? "?"}`;
     }
 
+    /** @param {ReplyMessage} reply */
     function replyText(reply) {
         return `${reply.pe}@${reply.cell} = ${answerText(reply.value)}`;
     }
 
+    /** @param {Give} give */
     function giveText(give) {
         return give.kind === "plus" || give.kind === "fixed" ? `${give.kind} ${give.word}` : give.kind;
     }
 
+    /** @param {WaitRecord} record */
     function recordText(record) {
         const { pe, cell, giveOld, partner, giveNew } = record;
         return `${pe}@${cell} ${giveText(giveOld)} ${partner} ${giveText(giveNew)}`;
     }
 
-    /** The text of an entry, whichever of the three it is. */
+    /**
+     * The text of an entry, whichever of the three it is.
+     * @param {Entry} entry
+     */
     function entryText(entry) {
         if ("giveOld" in entry) {
             return recordText(entry);

@@ -5,6 +5,10 @@
 
     const { act, operationText, answerText } = viewer;
 
+    /**
+     * @param {Tree} tree
+     * @returns {tree is KnownPair}
+     */
     function isPair(tree) {
         return "old" in tree;
     }
@@ -14,7 +18,11 @@
         return `${request.pe}.${request.number ?? "?"}`;
     }
 
-    /** The leaves of a tree in serial order. A tree is at most as high as there are stages. */
+    /**
+     * The leaves of a tree in serial order. A tree is at most as high as there are stages.
+     * @param {Tree} tree
+     * @returns {KnownRequest[]}
+     */
     function leavesOf(tree) {
         if (!isPair(tree)) {
             return [tree];
@@ -23,11 +31,19 @@
         return order.flatMap(leavesOf);
     }
 
+    /**
+     * @param {Tree} tree
+     * @returns {number}
+     */
     function heightOf(tree) {
         return isPair(tree) ? 1 + Math.max(heightOf(tree.old), heightOf(tree.later)) : 0;
     }
 
-    /** The tree that a request or a pair is in by the end of the cycle. */
+    /**
+     * The tree that a request or a pair is in by the end of the cycle.
+     * @param {Tree} tree
+     * @param {number} cycle
+     */
     function treeAt(tree, cycle) {
         let found = tree;
         while (found.parent && found.parent.cycle <= cycle) {
@@ -36,12 +52,19 @@
         return found;
     }
 
-    /** The act that served a request, or null. */
+    /**
+     * The act that served a request, or null.
+     * @param {KnownRequest} request
+     */
     function actOf(request) {
         return treeAt(request, Infinity).act;
     }
 
-    /** The leaf whose PE and cell a combined request bears. */
+    /**
+     * The leaf whose PE and cell a combined request bears.
+     * @param {Tree} tree
+     * @returns {KnownRequest}
+     */
     function bearerOf(tree) {
         return isPair(tree) ? bearerOf(tree.old) : tree;
     }
@@ -54,6 +77,7 @@
         return `[${place} ${treeText(tree.old)} ${tree.isOldFirst ? "<" : ">"} ${treeText(tree.later)}]`;
     }
 
+    /** @param {KnownAct} found */
     function explanationOf(found) {
         return `cycle ${found.cycle} module ${found.module} cell ${found.cell} ${treeText(found.tree)}`;
     }
