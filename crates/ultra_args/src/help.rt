@@ -31,7 +31,7 @@ pub fn of_command(command: CommandName) -> Help<'static> {
 }
 
 /// The version of the program, and of its trace.
-pub const VERSION: &str = "1.0 (trace 2)";
+pub const VERSION: &str = "1.1.0 (trace 2)";
 
 /// The help of the number of workers of a run: what they gain and cost.
 pub const WORKERS: &str = "\
