@@ -183,6 +183,8 @@ def run_parts(parts, crate, number):
         ("judge", "tests/judge"),
         ("answers", "tests/answers"),
         ("documents", "tests/documents"),
+        ("wrapper", "tests/wrapper"),
+        ("export", "tests/export"),
         ("viewer", "viewer/tests/run"),
         ("studies", "studies/tests/run"),
         ("real_system", "tests/real_system"),

@@ -6,12 +6,15 @@ tree. Nothing is kept for later changes.
 """
 
 import hashlib
+import os
 import re
 import shutil
 import subprocess
 import sys
+from collections import Counter
 from pathlib import Path
 
+from stamps import sum_of, verdict_in
 from workspace import ROOT, below, handles_allowed, has_tests, is_program, libraries_of_kit, with_all_below
 
 # The words of the prover's last line for which `rt ci` refuses a crate. A test may have some of them.
@@ -28,6 +31,13 @@ def folder_of_kit():
 
 
 KIT = folder_of_kit()
+# The processor seconds that the commands run here have taken, by the crate in whose folder they ran.
+seconds_taken = Counter()
+
+
+def toolchain():
+    """The toolchain's line, as `rt version` prints it."""
+    return (KIT / "KIT-ID").read_text().strip()
 
 
 def library(name):
@@ -54,6 +64,19 @@ def stamp_file(name):
     return library(name).parent / "stamp"
 
 
+def verdict_file(name):
+    """Where the sum of a program is kept as it was built, and the last line of the prover for it."""
+    return library(name).parent / "verdict"
+
+
+def verdict_kept(name):
+    """The last line of the prover for a program, or an empty text where it isn't the one that was proved."""
+    file = verdict_file(name)
+    total, _, verdict = file.read_text().partition("\n") if file.is_file() else ("", "", "")
+    is_same = product(name).is_file() and sum_of(product(name).read_bytes()) == total
+    return verdict if is_same and not refusal(verdict) else ""
+
+
 def stamp_kept(name):
     """The sum of what a library or program was built from, or `none` where none is built."""
     file = stamp_file(name)
@@ -67,7 +90,8 @@ def product(name):
 
 def is_current(listed, name):
     """Whether a crate's library or program is built from its sources of now, over the libraries below as they are built."""
-    return product(name).exists() and stamp_kept(name) == stamp_of(listed, name)
+    is_whole = verdict_kept(name) if is_program(name) else product(name).exists()
+    return bool(is_whole) and stamp_kept(name) == stamp_of(listed, name)
 
 
 def crates_built(listed, names):
@@ -96,11 +120,17 @@ def words_for(listed, name, jobs, library):
 def run(folder, words, gives_way=False):
     """Runs a command, which may give way to others, and gives whether it ended well and what it said."""
     words = ["nice", *words] if gives_way else words
-    ran = subprocess.run(
+    ran = subprocess.Popen(
         [str(it) for it in words], cwd=folder, stdin=subprocess.DEVNULL, stdout=subprocess.PIPE,
         stderr=subprocess.STDOUT, text=True, errors="replace",
     )
-    return ran.returncode == 0, ran.stdout
+    with ran.stdout:
+        said = ran.stdout.read()
+    # unlike `wait`, this says what the command took
+    _, status, used = os.wait4(ran.pid, 0)
+    ran.returncode = os.waitstatus_to_exitcode(status)
+    seconds_taken[folder.name] += used.ru_utime + used.ru_stime
+    return ran.returncode == 0, said
 
 
 def prove(listed, name, jobs, gives_way=False):
@@ -119,6 +149,8 @@ def prove(listed, name, jobs, gives_way=False):
     words = words_for(listed, name, jobs, library)
     build = build_program if is_program(name) else build_library
     is_well, said = build(folder, product(name), words, gives_way)
+    if is_well and is_program(name):
+        verdict_file(name).write_text(f"{sum_of(product(name).read_bytes())}\n{verdict_in(said)}")
     if is_well and refusal(said):
         remove(product(name))
         return False, said + refusal(said)
