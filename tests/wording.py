@@ -2,7 +2,8 @@
 """Finds long sentences, and phrases that this project doesn't use, in its documents.
 
 usage: tests/wording.py [FILE..]
-If no file is named, these are README.md, CONTRIBUTING.md, docs/*.md, and the README.md of examples, bench and viewer.
+If no file is named, these are README.md, CONTRIBUTING.md, CHANGELOG.md, docs/*.md, and the README.md of examples, bench
+and viewer.
 Blocks of code aren't looked at, and a piece of code in a sentence counts as one word. Each cell of a table is a text by
 itself. The last line is 'N passed, M failed', where N and M count files.
 """
@@ -87,7 +88,7 @@ def faults(document):
 
 def documents():
     """The files that are looked at if none is named."""
-    named = [ROOT / "README.md", ROOT / "CONTRIBUTING.md"]
+    named = [ROOT / it for it in ("README.md", "CONTRIBUTING.md", "CHANGELOG.md")]
     return [*named, *sorted((ROOT / "docs").glob("*.md")), *(ROOT / it / "README.md" for it in FOLDERS)]
 
 

@@ -176,6 +176,9 @@ def run_parts(parts, crate, number):
         time.sleep(0.2)
     parts.start(WRONG_BODIES, "tests/wrong-bodies", "--built", crate)
     proofs.wait()
+    # what is packed is what these proofs have passed
+    log = str(parts.tree.parent / "proofs.log")
+    Path(log).write_text(proofs.log)
     # these leave the processors idle half of the time, so they go beside each other
     for name, *words in (
         ("gate", "tests/gate"),
@@ -185,6 +188,7 @@ def run_parts(parts, crate, number):
         ("documents", "tests/documents"),
         ("wrapper", "tests/wrapper"),
         ("export", "tests/export"),
+        ("package", "tests/package", "--short", "--proofs", log),
         ("viewer", "viewer/tests/run"),
         ("studies", "studies/tests/run"),
         ("real_system", "tests/real_system"),
