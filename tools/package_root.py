@@ -62,7 +62,9 @@ class Root:
         for top in sorted(self.folder.iterdir()):
             if top.name not in skipped:
                 found |= {str(it.relative_to(self.folder)) for it in [top, *top.rglob("*")] if not it.is_dir() or it.is_symlink()}
-        return {it for it in found if not re.match(r"var/(log|cache|lib/(dpkg|apt|systemd|man-db))/|etc/ld.so.cache", it)}
+        # what the system notes of packages, and of users that come and go
+        notes = r"var/(log|cache|lib/(dpkg|apt|systemd|man-db))/|etc/(ld.so.cache|passwd|group|g?shadow|sub[ug]id)"
+        return {it for it in found if not re.match(notes, it)}
 
 
 def fault_of_install(root, deb):
@@ -108,9 +110,10 @@ def fault_of_page(root):
     """Whether Chromium doesn't show the page of traces, or the page draws nothing."""
     browser = "chromium --headless=new --no-sandbox --disable-gpu --virtual-time-budget=8000 --dump-dom"
     root.run(f"printf '#!/bin/sh\\nexec {browser} \"file://$1\" 2>/dev/null\\n' > show && chmod +x show", USER, HOME)
-    command = "BROWSER=$PWD/show ultra-view examples/combined_pair/trace.txt | grep -o '<svg\\|got 0@0 = 1\\|cycle 7' | sort | uniq -c"
+    # only a page that has read the trace and drawn the machine has these
+    command = "BROWSER=$PWD/show ultra-view examples/combined_pair/trace.txt | grep -o '<text[^>]*>[^<]*</text>' | head -n 8"
     text, _ = root.run(command, USER, HOME)
-    return None if "<svg" in text and "cycle 7" in text else "the page shows no trace"
+    return None if "PE 1</text>" in text and "module 1</text>" in text else "the page shows no machine"
 
 
 def fault_of_study(root):
@@ -127,7 +130,7 @@ def fault_of_removal(root, before):
     root.run(f"userdel --remove {USER}")
     left = sorted(root.files() - before)
     print("".join(f"{it} is left\n" for it in left), end="")
-    return f"this is left: {left[:20]}" if any("ultra" in it for it in left) else None
+    return f"this is left: {left[:20]}" if left else None
 
 
 def try_root(tally, deb, shown, made):
