@@ -8,9 +8,7 @@ from pathlib import Path
 
 # A command in the list of the program's help, and an option with its value in that of a command.
 COMMAND = re.compile(r"^  ([a-z]+) +(\S.*)$", re.MULTILINE)
-OPTION = re.compile(r"^ +(?:-\w, )?(--[a-z-]+)(?: <(\w+)>)?", re.MULTILINE)
-# The words that an option takes are the first ones of lines that stand in a column of their own.
-CHOICE = re.compile(r"^ {10}([a-z]+)  +\S", re.MULTILINE)
+OPTION = re.compile(r"^ +(?:-\w, )?(--[a-z-]+)(?: <([^>]+)>)?", re.MULTILINE)
 # The names of programs in the help of `lib`, each with its parameters.
 PROGRAM_NAME = re.compile(r"\b([a-z]+) \((?:[A-Z] )?T\)")
 # The scripts that are packed beside the program.
@@ -57,7 +55,9 @@ def commands_of(program):
 def options_of(text):
     """Each option in the help of a command, with the words that it takes, if they are listed."""
     parts = re.split(r"\n(?= +(?:-\w, )?--[a-z])", "\n" + section(text, "Options"))
-    return {OPTION.match(it)[1]: CHOICE.findall(it) for it in parts if OPTION.match(it)}
+    found = (it for it in map(OPTION.match, parts) if it)
+    # a value that is one of some words is shown as these: <all|end>
+    return {it[1]: it[2].split("|") if "|" in (it[2] or "") else [] for it in found}
 
 
 def completions(program):
