@@ -108,8 +108,14 @@ with_text a rows next = option_and_then next (argument_text a rows)
 abbrev pub with_number : TableArgument → List Row → (ℕ → Option Asked) → Option Asked
 with_number a rows next = option_and_then next (argument_number a rows)
 
+-- the paths of the settings and of the program
+abbrev pub paths_in : List Row → Option (Text × Text)
+paths_in rows =
+    option_and_then (λ conf. option_map (λ prog. (conf, prog)) (argument_text arg.PROG rows))
+    (argument_text arg.CONF rows)
+
 abbrev pub with_run : List Row → (Text → Text → Option Asked) → Option Asked
-with_run rows next = with_text arg.CONF rows (λ conf. with_text arg.PROG rows (next conf))
+with_run rows next = option_and_then (λ paths. next paths.0 paths.1) (paths_in rows)
 
 -- the first and the last cycle that are shown
 abbrev pub cycles_in : List Row → Option (ℕ × ℕ)

@@ -3,7 +3,7 @@
 ghost use Rattle.std.specs.Prelude.{◌≡◌, IfOk};
 ghost use Rattle.clap.specs.Words.{new_app, new_rule, Text};
 ghost use Rattle.ultra_args.specs.Asked.{command_among, command_named};
-ghost use Rattle.ultra_args.specs.Grammar.{app_in, kind_rule, program_in, rule_in, ultra_app, IsRead, IsApp};
+ghost use Rattle.ultra_args.specs.Grammar.{app_in, kind_rule, program_app, program_in, rule_in, ultra_app, IsRead, IsApp};
 
 use crate::help::{self, Help};
 use crate::table::{ArgumentKind, COMMANDS, Presence, TableArgument, TableRow};
@@ -32,13 +32,20 @@ pub fn ultra_command<'c>(alloc: Global) -> Result<Command<'c>, AllocError>
 fn program_with<'c>(alloc: Global, commands: &[TableRow]) -> Result<Command<'c>, AllocError>
     ensures { IfOk result (IsApp (program_in (λ t. t.now) (λ r. r.now) commands.now)) }
 {
-    let mut program = new_command(alloc, "ultra", help::ULTRA)
-        .version(help::VERSION)
-        .subcommand_required(true);
+    let mut program = new_program(alloc);
     for command in commands {
         program = program.subcommand(command_of(alloc, command)?)?;
     }
     Ok(program)
+}
+
+/// The program without its commands.
+fn new_program<'c>(alloc: Global) -> Command<'c>
+    ensures { IsApp program_app result }
+{
+    new_command(alloc, "ultra", help::ULTRA)
+        .version(help::VERSION)
+        .subcommand_required(true)
 }
 
 /// The command of a row.
@@ -79,7 +86,7 @@ fn of_kind<'c>(alloc: Global, argument: &TableArgument) -> Arg<'c>
     ensures { IsRead (kind_rule (λ t. t.now) argument.now.name.now argument.now.kind) result }
 {
     let name = argument.name;
-    let named = argument_with_help(alloc, name, argument.help);
+    let named = argument_with_help(alloc, name, help::of_argument(argument.help));
     match argument.kind {
         ArgumentKind::Text => named,
         ArgumentKind::Numbers => named

@@ -3,23 +3,19 @@
 #![tactic(auto)]
 
 mod grammar;
-mod heap;
 mod help;
-mod jobs_at_once;
+mod limited;
 mod reading;
 mod sweep_output;
 mod table;
-mod window_cycles;
-mod workers;
 
 pub use grammar::ultra_command;
-pub use heap::HeapBytes;
-pub use jobs_at_once::JobsAtOnce;
+pub use limited::{
+    Bytes, Cycles, HeapBytes, Jobs, JobsAtOnce, Limited, Threads, WindowCycles, Workers,
+};
 pub use reading::{command_named, named_command};
 pub use sweep_output::SweepOutput;
 pub use table::CommandName;
-pub use window_cycles::WindowCycles;
-pub use workers::Workers;
 
 /// What the program is asked to do.
 #[derive(Clone, Copy, Drop)]

@@ -73,9 +73,10 @@ fn run<'w>(words: &ArgMatches<'w>) -> Option<Invocation<'w>>
         ≡ spec.asked_in CommandName.Run (rows_of (found_of words.now)) }
 {
     let (from, to) = cycles(words)?;
+    let (settings, program) = paths(words)?;
     Some(Invocation::Run {
-        settings: settings(words)?,
-        program: program(words)?,
+        settings,
+        program,
         workers: Workers::new(number(words, &WORKERS)?),
         from,
         to,
@@ -89,9 +90,10 @@ fn events<'w>(words: &ArgMatches<'w>) -> Option<Invocation<'w>>
         ≡ spec.asked_in CommandName.Events (rows_of (found_of words.now)) }
 {
     let (from, to) = cycles(words)?;
+    let (settings, program) = paths(words)?;
     Some(Invocation::Events {
-        settings: settings(words)?,
-        program: program(words)?,
+        settings,
+        program,
         from,
         to,
     })
@@ -102,10 +104,8 @@ fn requests<'w>(words: &ArgMatches<'w>) -> Option<Invocation<'w>>
     ensures { option_map asked_of result
         ≡ spec.asked_in CommandName.Requests (rows_of (found_of words.now)) }
 {
-    Some(Invocation::Requests {
-        settings: settings(words)?,
-        program: program(words)?,
-    })
+    let (settings, program) = paths(words)?;
+    Some(Invocation::Requests { settings, program })
 }
 
 /// The `measure` command that these arguments ask for.
@@ -113,9 +113,10 @@ fn measure<'w>(words: &ArgMatches<'w>) -> Option<Invocation<'w>>
     ensures { option_map asked_of result
         ≡ spec.asked_in CommandName.Measure (rows_of (found_of words.now)) }
 {
+    let (settings, program) = paths(words)?;
     Some(Invocation::Measure {
-        settings: settings(words)?,
-        program: program(words)?,
+        settings,
+        program,
         csv: is_set(words, &CSV),
         every: every(words),
     })
@@ -126,10 +127,8 @@ fn order<'w>(words: &ArgMatches<'w>) -> Option<Invocation<'w>>
     ensures { option_map asked_of result
         ≡ spec.asked_in CommandName.Order (rows_of (found_of words.now)) }
 {
-    Some(Invocation::Order {
-        settings: settings(words)?,
-        program: program(words)?,
-    })
+    let (settings, program) = paths(words)?;
+    Some(Invocation::Order { settings, program })
 }
 
 /// The `explain` command that these arguments ask for.
@@ -137,9 +136,10 @@ fn explain<'w>(words: &ArgMatches<'w>) -> Option<Invocation<'w>>
     ensures { option_map asked_of result
         ≡ spec.asked_in CommandName.Explain (rows_of (found_of words.now)) }
 {
+    let (settings, program) = paths(words)?;
     Some(Invocation::Explain {
-        settings: settings(words)?,
-        program: program(words)?,
+        settings,
+        program,
         heap: HeapBytes::new(number(words, &HEAP)?),
     })
 }
@@ -149,9 +149,10 @@ fn check<'w>(words: &ArgMatches<'w>) -> Option<Invocation<'w>>
     ensures { option_map asked_of result
         ≡ spec.asked_in CommandName.Check (rows_of (found_of words.now)) }
 {
+    let (settings, program) = paths(words)?;
     Some(Invocation::Check {
-        settings: settings(words)?,
-        program: program(words)?,
+        settings,
+        program,
         list: text(words, &LIST)?,
     })
 }
@@ -161,9 +162,10 @@ fn para<'w>(words: &ArgMatches<'w>) -> Option<Invocation<'w>>
     ensures { option_map asked_of result
         ≡ spec.asked_in CommandName.Para (rows_of (found_of words.now)) }
 {
+    let (settings, program) = paths(words)?;
     Some(Invocation::Para {
-        settings: settings(words)?,
-        program: program(words)?,
+        settings,
+        program,
         schedule: schedule(words)?,
         only_end: only_end(words)?,
     })
@@ -204,12 +206,12 @@ fn lib<'w>(words: &ArgMatches<'w>) -> Option<Invocation<'w>>
     Some(Invocation::Lib(coordination(name, numbers)?))
 }
 
-/// The path of the settings.
-fn settings<'w>(words: &ArgMatches<'w>) -> Option<&'w str>
-    ensures { option_map (λ s. s.now) result
-        ≡ first_of CONF.name.now (rows_of (found_of words.now)) }
+/// The paths of the settings and of the program's text.
+fn paths<'w>(words: &ArgMatches<'w>) -> Option<(&'w str, &'w str)>
+    ensures { option_map (λ p. (p.0.now, p.1.now)) result
+        ≡ spec.paths_in (rows_of (found_of words.now)) }
 {
-    text(words, &CONF)
+    Some((text(words, &CONF)?, program(words)?))
 }
 
 /// The path of the program's text.

@@ -1,7 +1,7 @@
 //! The commands, their arguments and their options. What `clap` is given, and what accepted
 //! arguments ask for, follow from this table.
 
-use crate::help;
+use crate::help::ArgumentHelp;
 
 /// The commands.
 #[derive(Clone, Copy)]
@@ -38,8 +38,9 @@ pub struct CommandRow<T, A> {
 pub struct Argument<T> {
     /// Its name. An option is `--NAME`.
     pub name: T,
-    /// Its help. What follows an empty line is shown by `--help` alone.
-    pub help: T,
+    /// Which text is its help. The text isn't here: it would be in each function that names the
+    /// argument, and proved there.
+    pub help: ArgumentHelp,
     /// What it is.
     pub kind: ArgumentKind<T>,
     /// What holds where it isn't given.
@@ -140,154 +141,154 @@ pub static COMMANDS: [TableRow; 11] = [
 
 pub const CONF: TableArgument = Argument {
     name: "CONF",
-    help: "The settings of the machine, a TOML file",
+    help: ArgumentHelp::Conf,
     kind: ArgumentKind::Text,
     presence: Presence::Required,
 };
 
 pub const PROG: TableArgument = Argument {
     name: "PROG",
-    help: "The program of the processing elements, an assembler text",
+    help: ArgumentHelp::Prog,
     kind: ArgumentKind::Text,
     presence: Presence::Required,
 };
 
 pub const WORKERS: TableArgument = Argument {
     name: "workers",
-    help: help::WORKERS,
+    help: ArgumentHelp::Workers,
     kind: ArgumentKind::Number("H", 1, 64),
     presence: Presence::Default("1"),
 };
 
 pub const FROM: TableArgument = Argument {
     name: "from",
-    help: "The first cycle that is shown, 0 to 1000000",
+    help: ArgumentHelp::From,
     kind: ArgumentKind::Number("A", 0, 1_000_000),
     presence: Presence::Default("0"),
 };
 
 pub const TO: TableArgument = Argument {
     name: "to",
-    help: "The last cycle that is shown, 0 to 1000000",
+    help: ArgumentHelp::To,
     kind: ArgumentKind::Number("B", 0, 1_000_000),
     presence: Presence::Default("1000000"),
 };
 
 pub const ONLY: TableArgument = Argument {
     name: "only",
-    help: help::ONLY,
+    help: ArgumentHelp::Only,
     kind: ArgumentKind::Word("all|events|end"),
     presence: Presence::Default("all"),
 };
 
 pub const CSV: TableArgument = Argument {
     name: "csv",
-    help: "Writes a table, its values separated by commas",
+    help: ArgumentHelp::Csv,
     kind: ArgumentKind::Flag,
     presence: Presence::Optional,
 };
 
 pub const EVERY: TableArgument = Argument {
     name: "every",
-    help: help::EVERY,
+    help: ArgumentHelp::Every,
     kind: ArgumentKind::Number("E", 1, 1_000_000),
     presence: Presence::Optional,
 };
 
 pub const HEAP: TableArgument = Argument {
     name: "heap",
-    help: help::HEAP,
+    help: ArgumentHelp::Heap,
     kind: ArgumentKind::Number("BYTES", 256, 16_777_216),
     presence: Presence::Default("1048576"),
 };
 
 pub const LIST: TableArgument = Argument {
     name: "LIST",
-    help: "The list of requests and replies, in the form that `order` writes",
+    help: ArgumentHelp::List,
     kind: ArgumentKind::Text,
     presence: Presence::Required,
 };
 
 pub const SCHEDULE: TableArgument = Argument {
     name: "SCHEDULE",
-    help: "The PE that makes each step: a file of PE numbers",
+    help: ArgumentHelp::Schedule,
     kind: ArgumentKind::Text,
     presence: Presence::Optional,
 };
 
 pub const SEED: TableArgument = Argument {
     name: "seed",
-    help: help::SEED,
+    help: ArgumentHelp::Seed,
     kind: ArgumentKind::Number("S", 0, u64::MAX),
     presence: Presence::Optional,
 };
 
 pub const STEPS: TableArgument = Argument {
     name: "steps",
-    help: help::STEPS,
+    help: ArgumentHelp::Steps,
     kind: ArgumentKind::Number("T", 0, 4_294_967_295),
     presence: Presence::Optional,
 };
 
 pub const ALL_OR_END: TableArgument = Argument {
     name: "only",
-    help: "What is written: all, or only the end",
+    help: ArgumentHelp::AllOrEnd,
     kind: ArgumentKind::Word("all|end"),
     presence: Presence::Default("all"),
 };
 
 pub const CAREFUL: TableArgument = Argument {
     name: "careful",
-    help: help::CAREFUL,
+    help: ArgumentHelp::Careful,
     kind: ArgumentKind::Flag,
     presence: Presence::Optional,
 };
 
 pub const JOBS: TableArgument = Argument {
     name: "JOBS",
-    help: "The settings and programs of the runs, a TOML file",
+    help: ArgumentHelp::Jobs,
     kind: ArgumentKind::Text,
     presence: Presence::Required,
 };
 
 pub const JOB_WORKERS: TableArgument = Argument {
     name: "workers",
-    help: help::JOB_WORKERS,
+    help: ArgumentHelp::JobWorkers,
     kind: ArgumentKind::Number("H", 1, 64),
     presence: Presence::Required,
 };
 
 pub const AT_ONCE: TableArgument = Argument {
     name: "at-once",
-    help: "How many jobs may run at once, 1 to 64",
+    help: ArgumentHelp::AtOnce,
     kind: ArgumentKind::Number("B", 1, 64),
     presence: Presence::Required,
 };
 
 pub const PROGRESS: TableArgument = Argument {
     name: "progress",
-    help: "Shows on standard error how many jobs are finished",
+    help: ArgumentHelp::Progress,
     kind: ArgumentKind::Flag,
     presence: Presence::Optional,
 };
 
 pub const MEASURES: TableArgument = Argument {
     name: "measure",
-    help: "Writes the measures of each job in place of its trace",
+    help: ArgumentHelp::Measures,
     kind: ArgumentKind::Flag,
     presence: Presence::Optional,
 };
 
 pub const NAME: TableArgument = Argument {
     name: "NAME",
-    help: help::NAME,
+    help: ArgumentHelp::Name,
     kind: ArgumentKind::Text,
     presence: Presence::Required,
 };
 
 pub const NUMBER: TableArgument = Argument {
     name: "NUMBER",
-    help: help::NUMBER,
+    help: ArgumentHelp::Number,
     kind: ArgumentKind::Numbers,
     presence: Presence::Required,
 };

@@ -69,7 +69,15 @@ pub(crate) fn run<'p, R: Threads + Wait + Sync, F: Source, O: Sink>(
     let Inputs { config, program } = read_inputs(alloc, settings_path, program_path, source)?;
     // for the prover: a run has at most `MOST_CYCLES` cycles
     let _cycles = config.cycles();
-    match write_part(rt, alloc, &config, &program, part, workers.count(), out) {
+    match write_part(
+        rt,
+        alloc,
+        &config,
+        &program,
+        part,
+        workers.count() as usize,
+        out,
+    ) {
         Ok(()) => Ok(()),
         Err(fault) => Err(failure_of_run(fault)),
     }

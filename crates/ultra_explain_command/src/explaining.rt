@@ -100,7 +100,7 @@ fn explain_run<'p, O: Sink>(
 fn new_heap(alloc: Global, heap_bytes: HeapBytes) -> Result<Heap, AllocError>
     ensures { IfOk result (λ heap. heap_size heap ≡ block_size heap_bytes) }
 {
-    Heap::new(alloc, heap_bytes.count())
+    Heap::new(alloc, heap_bytes.count() as usize)
 }
 
 /// Writes the lines of a run by an explainer that holds no trees yet.

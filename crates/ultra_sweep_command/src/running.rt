@@ -28,9 +28,9 @@ impl SweepPlan {
         ensures few { result < 64 }
     {
         if self.progress {
-            self.workers.count().min(MOST_SEATS as usize - 1)
+            (self.workers.count() as usize).min(MOST_SEATS as usize - 1)
         } else {
-            self.workers.count() - 1
+            self.workers.count() as usize - 1
         }
     }
 }
