@@ -25,7 +25,7 @@ function reasonOf(act) {
     }
 }
 
-test("the sorts of texts are told apart by their first lines", () => {
+test("the first line of a text shows its kind", () => {
     assert.equal(viewer.sortOfText("ultra trace 2\n"), "trace");
     Object.values(STEPS).forEach((it) => assert.equal(viewer.sortOfText(it), "steps"));
     for (const folder of examples()) {

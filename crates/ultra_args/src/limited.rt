@@ -6,7 +6,7 @@ use std::marker::{Model, PhantomData};
 
 /// A number of some unit, `LEAST` to `MOST`. Contracts see the number.
 ///
-/// Only the command line gives one, and each unit has a type of its own. So no other number can be
+/// Only the command line makes one, and each unit is another type. So no other number can be
 /// taken for it.
 #[derive(Clone, Copy)]
 pub struct Limited<Unit, const LEAST: u32, const MOST: u32> {
