@@ -32,7 +32,7 @@ enum Effect {
 
 /// A processing element without its network interface: sixteen registers, a program counter, and
 /// what it is doing (this project's profile).
-#[derive(Drop)]
+#[derive(Clone, Copy, PartialEq, Eq, Drop)]
 pub struct Processor {
     pe: Pe,
     size: u32,
@@ -55,6 +55,16 @@ impl Model for Processor {
 
     ghost invariant = { λ p.
         IsWellFormedCore record { registers = p.registers; pc = p.pc; activity = p.activity } };
+
+    ghost inverse = { λ s.
+        record {
+          pe = s.site.pe;
+          size = s.site.size;
+          all_cells = s.site.all_cells;
+          registers = s.core.registers;
+          pc = s.core.pc;
+          activity = s.core.activity;
+        } };
 }
 
 /// Whether one of the three registers is awaited. Where an instruction names fewer, one of them is
