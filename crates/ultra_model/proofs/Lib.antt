@@ -19,4 +19,3 @@ pub mod Balanced
 pub mod Sound
 pub mod Interfaces
 pub mod Ranged
-pub mod Words

@@ -9,6 +9,5 @@ pub mod Capacity
 pub mod Routed
 pub mod Balance
 pub mod Sound
-pub mod Words
 pub mod Text
 pub mod Trace
