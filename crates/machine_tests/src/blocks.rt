@@ -3,10 +3,8 @@
 use crate::equal::check_equal;
 use crate::support::answered_event;
 use std::process::Abort;
-use ultra_machine::{Blocks, ProcessingElement};
-use ultra_mem::Module;
-use ultra_msg::{Event, Pe, Word};
-use ultra_switch::{ToMm, ToPe};
+use ultra_machine::Blocks;
+use ultra_msg::{Event, Word};
 
 /// Makes n cycles.
 pub(crate) fn run_blocks(rt: &impl Abort, blocks: &mut Blocks, cycles: u32) {
@@ -17,12 +15,12 @@ pub(crate) fn run_blocks(rt: &impl Abort, blocks: &mut Blocks, cycles: u32) {
 }
 
 /// Asserts what happened next in a cycle.
-pub(crate) fn event_is(rt: &impl Abort, found: Option<Event>, wanted: Option<Event>) {
+fn event_is(rt: &impl Abort, found: Option<Event>, wanted: Option<Event>) {
     check_equal(rt, found, wanted);
 }
 
 /// Just this happened in the last cycle.
-pub(crate) fn events_are(rt: &impl Abort, blocks: &Blocks, wanted: &[Event]) {
+fn events_are(rt: &impl Abort, blocks: &Blocks, wanted: &[Event]) {
     let mut events = blocks.events();
     for event in wanted {
         event_is(rt, events.next(), Some(*event));
@@ -30,40 +28,10 @@ pub(crate) fn events_are(rt: &impl Abort, blocks: &Blocks, wanted: &[Event]) {
     event_is(rt, events.next(), None);
 }
 
-/// The queue toward memory at a position of a stage.
-pub(crate) fn lane<'b>(rt: &impl Abort, blocks: &'b Blocks, stage: u32, position: u32) -> &'b ToMm {
-    assert!(rt; stage < blocks.config().stages());
-    assert!(rt; position < blocks.config().net().size());
-    blocks.lane(stage, position)
-}
-
-/// The queue toward the processing elements at a position of a stage.
-pub(crate) fn replies<'b>(
-    rt: &impl Abort,
-    blocks: &'b Blocks,
-    stage: u32,
-    position: u32,
-) -> &'b ToPe {
-    assert!(rt; stage < blocks.config().stages());
-    assert!(rt; position < blocks.config().net().size());
-    blocks.reply_queue(stage, position)
-}
-
-/// A memory module.
-pub(crate) fn memory_module<'b>(rt: &impl Abort, blocks: &'b Blocks, number: u32) -> &'b Module {
-    assert!(rt; number < blocks.config().net().size());
-    blocks.memory_module(number)
-}
-
-/// A processing element.
-pub(crate) fn element<'b>(rt: &impl Abort, blocks: &'b Blocks, pe: Pe) -> &'b ProcessingElement {
-    assert!(rt; pe < blocks.config().net().size());
-    blocks.element(pe)
-}
-
 /// The value of cell 0.
-pub(crate) fn first_cell_is(rt: &impl Abort, blocks: &Blocks, word: Word) {
-    check_equal(rt, memory_module(rt, blocks, 0).peek(0), Some(word));
+fn first_cell_is(rt: &impl Abort, blocks: &Blocks, word: Word) {
+    assert!(rt; blocks.config().net().size() > 0);
+    check_equal(rt, blocks.memory_module(0).peek(0), Some(word));
 }
 
 /// In the last cycle of the worked tree of two levels every processing element gets its own value,

@@ -1,11 +1,9 @@
 //! Machines whose cycles are made by several workers.
 
-use crate::blocks::{element, event_is, lane, memory_module, replies, tree_is_answered};
+use crate::blocks::tree_is_answered;
 use crate::equal::check_equal;
 use crate::meeting::MeetingOfThree;
-use crate::support::{
-    COMBINED_PAIR, Counter, Holdup, Meeting, add_number, add_one, config, register,
-};
+use crate::support::{COMBINED_PAIR, Counter, Holdup, Meeting, add_number, add_one, config};
 use std::alloc::Global;
 use std::process::Abort;
 use std::sync::Wait;
@@ -13,27 +11,16 @@ use std::sync::atomic::Ordering;
 use std::test::Fail;
 use std::thread::Threads;
 use test_sinks::MemorySink;
-use ultra_crew::{Crew, CrewFault, Gate, cycle_alone};
-use ultra_isa::{Activity, MachineFault, Processor};
-use ultra_machine::{Blocks, ProcessingElement};
-use ultra_mem::Module;
-use ultra_model::Stop;
-use ultra_msg::{Pe, Request};
-use ultra_switch::{ToMm, ToPe};
+use ultra_crew::{Crew, CrewFault, Gate};
+use ultra_machine::Blocks;
 use ultra_trace::run;
 
 /// The machine in which each processing element adds its number and 1 to cell 0, before its first
 /// cycle, in this partition.
-pub(crate) fn additions(alloc: Global, stages: i64, partition: &[u8]) -> Result<Blocks, Fail> {
+fn additions(alloc: Global, stages: i64, partition: &[u8]) -> Result<Blocks, Fail> {
     let config = config(alloc, stages)?;
     let program = add_number(alloc)?;
     Ok(Blocks::new(alloc, &config, &program, partition)?)
-}
-
-/// Makes a cycle without workers.
-fn make_cycle_alone(rt: &impl Abort, blocks: &mut Blocks) {
-    assert!(rt; blocks.done() < 1000);
-    cycle_alone(blocks);
 }
 
 /// Makes a cycle by these workers.
@@ -173,138 +160,16 @@ fn three_meet_in_a_run(rt: HostRuntime) -> Result<(), Fail> {
     Ok(())
 }
 
-fn same_requests(rt: &impl Abort, a: &ToMm, b: &ToMm) {
-    assert_eq!(rt; a.len(), b.len());
-    for index in 0..a.len() {
-        check_equal(rt, a.entry(index), b.entry(index));
-    }
-    assert_eq!(rt; a.record_count(), b.record_count());
-    for index in 0..a.record_count() {
-        check_equal(rt, a.record(index), b.record(index));
-    }
-}
-
-fn same_replies(rt: &impl Abort, a: &ToPe, b: &ToPe) {
-    assert_eq!(rt; a.len(), b.len());
-    for index in 0..a.len() {
-        check_equal(rt, a.reply(index), b.reply(index));
-    }
-}
-
-fn same_module(rt: &impl Abort, a: &Module, b: &Module) {
-    check_equal(rt, a.request(), b.request());
-    check_equal(rt, a.reply(), b.reply());
-    for offset in 0..16 {
-        check_equal(rt, a.peek(offset), b.peek(offset));
-    }
-}
-
-fn same_registers(rt: &impl Abort, a: &Processor, b: &Processor) {
-    for number in 0..16 {
-        let register = register(number);
-        check_equal(rt, a.register(register), b.register(register));
-    }
-}
-
-/// Where a processing element is in its program, and what it is doing.
-fn doing(element: &ProcessingElement) -> (usize, Activity) {
-    let processor = &element.processor;
-    (processor.pc(), processor.activity())
-}
-
-/// How many cells a processing element has open, and which of its requests is sent next.
-fn waiting(element: &ProcessingElement) -> (usize, Option<Request>) {
-    let interface = &element.interface;
-    (interface.open_count(), interface.head())
-}
-
-fn same_element(rt: &impl Abort, a: &ProcessingElement, b: &ProcessingElement) {
-    check_equal(rt, a.issued, b.issued);
-    check_equal(rt, doing(a), doing(b));
-    check_equal(rt, waiting(a), waiting(b));
-    same_registers(rt, &a.processor, &b.processor);
-}
-
-/// The same happened in the last cycles of two machines.
-fn same_events(rt: &impl Abort, a: &Blocks, b: &Blocks) {
-    let mut events = b.events();
-    for event in a.events() {
-        event_is(rt, events.next(), Some(event));
-    }
-    event_is(rt, events.next(), None);
-}
-
-/// The same processing elements stopped in the last cycles of two machines.
-fn same_stops(rt: &impl Abort, a: &Blocks, b: &Blocks) {
-    let mut stops = b.stops();
-    for stop in a.stops() {
-        check_equal(rt, cause(stops.next()), cause(Some(stop)));
-    }
-    assert!(rt; stops.next().is_none());
-}
-
-/// Two machines hold the same in the queues at a position of a stage.
-fn same_queues(rt: &impl Abort, a: &Blocks, b: &Blocks, stage: u32, position: u32) {
-    same_requests(
-        rt,
-        lane(rt, a, stage, position),
-        lane(rt, b, stage, position),
-    );
-    same_replies(
-        rt,
-        replies(rt, a, stage, position),
-        replies(rt, b, stage, position),
-    );
-}
-
-/// Two machines hold the same in the memory module and the processing element of a number.
-fn same_ends(rt: &impl Abort, a: &Blocks, b: &Blocks, number: u32) {
-    same_module(
-        rt,
-        memory_module(rt, a, number),
-        memory_module(rt, b, number),
-    );
-    same_element(rt, element(rt, a, number), element(rt, b, number));
-}
-
-/// Two machines with as many stages hold the same everywhere, and the same happened in their last
-/// cycles.
-fn same_places(rt: &impl Abort, a: &Blocks, b: &Blocks) {
-    check_equal(rt, a.done(), b.done());
-    check_equal(rt, a.config().stages(), b.config().stages());
-    let net = a.config().net();
-    for stage in 0..net.stages() {
-        for position in 0..net.size() {
-            same_queues(rt, a, b, stage, position);
-        }
-    }
-    for number in 0..net.size() {
-        same_ends(rt, a, b, number);
-    }
-    same_events(rt, a, b);
-    same_stops(rt, a, b);
-}
-
-/// Which processing element stopped, and why.
-fn cause(stop: Option<Stop>) -> Option<(Pe, MachineFault)> {
-    let stop = stop?;
-    Some((stop.pe, stop.fault))
-}
-
-/// Ten cycles by these workers, beside the same machine in one block and without them: after each
-/// cycle both hold the same everywhere.
-fn goes_as_alone<R: Threads + Wait + Sync + Abort + AllocGlobal, G: Gate + Sync>(
+/// Ten cycles by these workers: then each processing element has its answer.
+fn tree_is_answered_by<R: Threads + Wait + Sync + Abort + AllocGlobal, G: Gate + Sync>(
     rt: &R,
     partition: &[u8],
     workers: usize,
     gate: &G,
 ) -> Result<(), Fail> {
-    let mut alone = additions(rt.alloc(), 2, &[0; 12])?;
     let mut blocks = additions(rt.alloc(), 2, partition)?;
     for _ in 0..10u32 {
-        make_cycle_alone(rt, &mut alone);
         blocks = make_cycle(rt, rt.alloc(), blocks, workers, gate)?;
-        same_places(rt, &alone, &blocks);
     }
     tree_is_answered(rt, &blocks);
     Ok(())
@@ -315,7 +180,7 @@ fn any_workers(rt: HostRuntime) -> Result<(), Fail> {
     let gate = Counter::new();
     let switches_apart = [5, 5, 5, 5, 0, 0, 0, 0, 0, 0, 0, 0];
     for workers in [1, 2, 3, 64] {
-        goes_as_alone(&rt, &switches_apart, workers, &gate)?;
+        tree_is_answered_by(&rt, &switches_apart, workers, &gate)?;
     }
     // blocks 0 to 5, 6 halves and 10 cycles, by each crew of more than one
     check_equal(&rt, gate.calls.load(Ordering::SeqCst), 3 * 6 * 6 * 10);
@@ -325,31 +190,17 @@ fn any_workers(rt: HostRuntime) -> Result<(), Fail> {
 #[test]
 fn one_worker_late(rt: HostRuntime) -> Result<(), Fail> {
     let gate = Holdup { block: 0 };
-    goes_as_alone(&rt, &[0, 1, 2, 0, 1, 2, 0, 1, 2, 0, 1, 2], 3, &gate)
+    tree_is_answered_by(&rt, &[0, 1, 2, 0, 1, 2, 0, 1, 2, 0, 1, 2], 3, &gate)
 }
 
-/// The machine of two stages in this partition after ten cycles, made by these workers, whose
-/// threads are kept.
-fn ten_by_kept<R: Threads + Wait + Sync + Abort + AllocGlobal, G: Gate + Sync>(
-    rt: &R,
-    partition: &[u8],
-    workers: usize,
-    gate: &G,
-) -> Result<Blocks, Fail> {
-    let blocks = additions(rt.alloc(), 2, partition)?;
-    Ok(by_kept(rt, rt.alloc(), blocks, workers, gate, 10)?)
-}
-
-/// Ten cycles by these workers, whose threads are kept, beside the same machine in one block and
-/// without workers: after them both hold the same everywhere.
-fn kept_go_as_alone<R: Threads + Wait + Sync + Abort + AllocGlobal, G: Gate + Sync>(
+/// The same by workers whose threads are kept.
+fn tree_is_answered_by_kept<R: Threads + Wait + Sync + Abort + AllocGlobal, G: Gate + Sync>(
     rt: &R,
     workers: usize,
     gate: &G,
 ) -> Result<(), Fail> {
-    let alone = ten_by_kept(rt, &[0; 12], 1, gate)?;
-    let blocks = ten_by_kept(rt, &[0, 1, 2, 0, 1, 2, 0, 1, 2, 0, 1, 2], workers, gate)?;
-    same_places(rt, &alone, &blocks);
+    let blocks = additions(rt.alloc(), 2, &[0, 1, 2, 0, 1, 2, 0, 1, 2, 0, 1, 2])?;
+    let blocks = by_kept(rt, rt.alloc(), blocks, workers, gate, 10)?;
     tree_is_answered(rt, &blocks);
     Ok(())
 }
@@ -359,7 +210,7 @@ fn kept_go_as_alone<R: Threads + Wait + Sync + Abort + AllocGlobal, G: Gate + Sy
 fn kept_workers(rt: HostRuntime) -> Result<(), Fail> {
     let gate = Holdup { block: 0 };
     for workers in [1, 2, 3, 64] {
-        kept_go_as_alone(&rt, workers, &gate)?;
+        tree_is_answered_by_kept(&rt, workers, &gate)?;
     }
     Ok(())
 }
