@@ -8,8 +8,8 @@ use Rattle.ultra_model.specs.{Machine.{Settings, Machine, size}, Ranges.AreInRan
 use Rattle.ultra_model.proofs.Routes.{route, route_ends}
 use Rattle.ultra_serial_law.specs.{declared.records.{NamedRequest.NamedRequest, LoggedIssue.LoggedIssue}, Tree.{Tree, leaf, pair, leaves}, HotSpot.IsOf}
 use Rattle.ultra_serial_law.proofs.{Forest.{position_of, built, built_leaf, leaf_of}, Grown.{old_first, grown_is}}
-use Rattle.ultra_hot_spot.specs.HotCell.{old_of, new_of}
-use Rattle.ultra_hot_spot.proofs.{Meeting.{leads_at, front_first}, Fronts.front_is_old, Onward.leads_first, Returning.one_of_ports, Stages.{is_on, IsAsked, fronts, HasLeft}}
+use Rattle.ultra_serial_law.specs.HotCell.{old_of, new_of}
+use Rattle.ultra_serial_law.proofs.{Meeting.{leads_at, front_first}, Fronts.front_is_old, Onward.leads_first, Returning.one_of_ports, Stages.{is_on, IsAsked, fronts, HasLeft}}
 
 in_pair : (s x : ℕ) (old new : Tree) (f : Bool) (p : ℕ) → IsOf old p ⊎ IsOf new p → IsOf (pair s x old new f) p
 in_pair s x old new true p h =

@@ -10,8 +10,8 @@ use Rattle.ultra_model.proofs.{Counting.is_reference, Neighbours.itself}
 use Rattle.ultra_serial_law.specs.{Tree.{Tree, pair, leaves, height}, declared.records.LoggedIssue.LoggedIssue}
 use Rattle.ultra_serial_law.proofs.Series.{sent}
 use Rattle.ultra_serial_law.proofs.Forest.{find_record, record_at, position_of, built, built_leaf, built_next, grown}
-use Rattle.ultra_hot_spot.specs.HotCell.{first_port, second_port, old_of, new_of, record_of, left_at}
-use Rattle.ultra_hot_spot.proofs.{Meeting.{first_is_port, second_is_port, port_on}, Fronts.{front_cell, old_small, new_small, old_goes, front_is_old}, Stages.{is_on, IsAsked, fronts, HasLeft}}
+use Rattle.ultra_serial_law.specs.HotCell.{first_port, second_port, old_of, new_of, record_of, left_at}
+use Rattle.ultra_serial_law.proofs.{Meeting.{first_is_port, second_is_port, port_on}, Fronts.{front_cell, old_small, new_small, old_goes, front_is_old}, Stages.{is_on, IsAsked, fronts, HasLeft}}
 
 -- as high as s pairs, with all leaves that it can have
 pub record IsFull (s : ℕ) (t : Tree) : Type 0 where

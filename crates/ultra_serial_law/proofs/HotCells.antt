@@ -9,7 +9,7 @@ use Rattle.ultra_model.specs.Phases.{after, cycle, reply_phase, memory_phase, re
 use Rattle.ultra_model.proofs.Runs.{is_delivery, request, got, pending, holdings, settings, history as happened}
 use Rattle.ultra_model.proofs.{Pairs.{one_stage, add_one}, Levels.{two_stages, add_number}}
 use Rattle.ultra_serial_law.specs.{Tree.{Tree, leaf, pair}, SerialList.history, HotSpot.trees_taken}
-use Rattle.ultra_hot_spot.specs.AllAtOnce.{acts_on, later_events}
+use Rattle.ultra_serial_law.specs.AllAtOnce.{acts_on, later_events}
 
 -- the requests for cell a that are served in each of k cycles from cycle n on
 abbrev acts_by_cycle : Settings → List Instr → ℕ → ℕ → ℕ → List (List Request)

@@ -7,10 +7,10 @@ use Rattle.ultra_mem.specs.{declared.Placed.Placed, Serve.served}
 use Rattle.ultra_isa.specs.declared.Instr.{Instr}
 use Rattle.ultra_model.specs.{Machine.{Settings, Machine, size, module_at}, Phases.{delivered, reply_phase, cycle, after}, Ranges.AreInRange, Routed.module_of}
 use Rattle.ultra_model.proofs.{Each.each-append, Neighbours.itself, Routes.module_small}
-use Rattle.ultra_hot_spot.specs.AllAtOnce.{acts_on, AreAllAt, later_events}
-use Rattle.ultra_hot_spot.proofs.{Fronts.front_cell, Module.leads_last, Stages.{is_on, placed}}
-use Rattle.ultra_hot_spot.proofs.Acts.{deliveries, servings, meetings, issues, events_are, acts-append, acts_of_cycle, no_deliveries, no_meetings, no_issues}
-use Rattle.ultra_hot_spot.proofs.Law.{asked, each, inside_at, the_request, one_from, served_at_once, events_at}
+use Rattle.ultra_serial_law.specs.AllAtOnce.{acts_on, AreAllAt, later_events}
+use Rattle.ultra_serial_law.proofs.{Fronts.front_cell, Module.leads_last, Stages.{is_on, placed}}
+use Rattle.ultra_serial_law.proofs.Acts.{deliveries, servings, meetings, issues, events_are, acts-append, acts_of_cycle, no_deliveries, no_meetings, no_issues}
+use Rattle.ultra_serial_law.proofs.HotCellLaw.{asked, each, inside_at, the_request, one_from, served_at_once, events_at}
 use Rattle.ultra_serial_law.specs.{Tree.{Tree, tree_of}, SerialList.{History, history}, HotSpot.{trees_taken, IsHotSpot, HotSpotLaw}}
 use Rattle.ultra_serial_law.proofs.{Forest.built, Explained.IsKept, Law.serial_after, Everyone.everyone, Grown.{IsFull, hot_tree_is_full}}
 use Rattle.ultra_serial_law.proofs.Taken.{none_taken, taken-append, kept_after, one_taken, IsEarly, early_deliveries, early_servings}

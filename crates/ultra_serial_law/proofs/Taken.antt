@@ -7,7 +7,7 @@ use Rattle.ultra_msg.specs.declared.{Request.Request, ReplyMessage.ReplyMessage,
 use Rattle.ultra_mem.specs.declared.Served.{Served as Act}
 use Rattle.ultra_model.specs.{Places.{places, present}, Phases.{delivery, serving}}
 use Rattle.ultra_model.proofs.{Each.{each-present, each-places}, Counting.both_true, Neighbours.{itself, other}}
-use Rattle.ultra_hot_spot.specs.AllAtOnce.{acts_on}
+use Rattle.ultra_serial_law.specs.AllAtOnce.{acts_on}
 use Rattle.ultra_serial_law.specs.Tree.{Tree, Kept, is_under, tree_of, without, trees_after}
 use Rattle.ultra_serial_law.specs.HotSpot.{tree_list, tree_taken, trees_taken}
 

@@ -4,7 +4,7 @@ use Rattle.std.specs.List.{Contains}
 use Rattle.ultra_msg.specs.declared.{Request.Request, Event.{Event, TheVariants.{Delivered, Served, Combined, Issued}}}
 use Rattle.ultra_isa.specs.declared.Instr.{Instr}
 use Rattle.ultra_model.specs.{Machine.{Settings, size}, Phases.after, Ranges.AreInRange}
-use Rattle.ultra_hot_spot.specs.AllAtOnce.{AreAllAt, AreServedAtOnce, later_events}
+use Rattle.ultra_serial_law.specs.AllAtOnce.{AreAllAt, AreServedAtOnce, later_events}
 use Rattle.ultra_serial_law.specs.{declared.records.NamedRequest.NamedRequest, SerialList.history}
 use Rattle.ultra_serial_law.specs.Tree.{Tree, Kept, leaves, height, tree_of, trees_after}
 

@@ -4,5 +4,7 @@ pub mod Legal
 pub mod SerialList
 pub mod Chain
 pub mod Explicable
+pub mod HotCell
+pub mod AllAtOnce
 pub mod HotSpot
 pub mod Replies

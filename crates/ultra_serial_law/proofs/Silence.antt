@@ -7,8 +7,8 @@ use Rattle.ultra_isa.specs.declared.Instr.{Instr}
 use Rattle.ultra_model.specs.Machine.{Settings, Machine, size, last_stage, lane_at, replies_at, element_at}
 use Rattle.ultra_model.specs.{Phases.{reply_before, reply_phase, memory_phase, processor_phase}, Ranges.AreInRange}
 use Rattle.ultra_model.proofs.Routes.{turns_back}
-use Rattle.ultra_hot_spot.proofs.Quiet.{none_before, lane_unsplit, no_replies, element_stays, memory_module_stays, idle_stays}
-use Rattle.ultra_hot_spot.proofs.{Calm.{clear_replied, away_processed}, Stages.{IsSilent, IsSet, IsAtStage}}
+use Rattle.ultra_serial_law.proofs.Quiet.{none_before, lane_unsplit, no_replies, element_stays, memory_module_stays, idle_stays}
+use Rattle.ultra_serial_law.proofs.{Calm.{clear_replied, away_processed}, Stages.{IsSilent, IsSet, IsAtStage}}
 
 module _ (c : Settings) (range : AreInRange c) (m : Machine) where
   module _ (w : IsSilent c m) where

@@ -5,7 +5,7 @@ use Rattle.std.proofs.lemmas.Bool.{eqb-true}
 use Rattle.ultra_route.specs.Route.{unshuffled, bit_of, with_lowest}
 use Rattle.ultra_route.proofs.Table.{all_below, all_below_at}
 use Rattle.ultra_model.proofs.Counting.{both_true}
-use Rattle.ultra_hot_spot.specs.HotCell.{leads_to}
+use Rattle.ultra_serial_law.specs.HotCell.{leads_to}
 
 abbrev same : Bool → Bool → Bool
 same true b = b

@@ -8,9 +8,9 @@ use Rattle.ultra_switch.specs.{declared.QueueEntry.QueueEntry, Arrive.{Lane, emp
 use Rattle.ultra_model.specs.{Places.after_leaving, Phases.{request_before, arriving_request, request_phase}, Ranges.AreInRange, Routed.module_of}
 use Rattle.ultra_model.specs.Machine.{Settings, Machine, Element, size, last_stage, lane_at, element_at}
 use Rattle.ultra_model.proofs.{Neighbours.itself, Routes.{turns_back, module_small}, RequestBalance.before_first, AtPlaces.{lane-request_phase, element-request_phase, replies-request_phase}}
-use Rattle.ultra_hot_spot.specs.HotCell.{front, record_of}
-use Rattle.ultra_hot_spot.proofs.{Meeting.{front_first, all_arrive, hot_requests_reach}, Fronts.front_cell, Others.{Keeps, keeps_alone, IsAway}, Quiet.{head_of, before_at, stays_empty, none_enters}}
-use Rattle.ultra_hot_spot.proofs.Stages.{is_on, IsAsked, fronts, lines, hot_at, left_behind, IsSilent, IsSet, IsAtStage}
+use Rattle.ultra_serial_law.specs.HotCell.{front, record_of}
+use Rattle.ultra_serial_law.proofs.{Meeting.{front_first, all_arrive, hot_requests_reach}, Fronts.front_cell, Others.{Keeps, keeps_alone, IsAway}, Quiet.{head_of, before_at, stays_empty, none_enters}}
+use Rattle.ultra_serial_law.proofs.Stages.{is_on, IsAsked, fronts, lines, hot_at, left_behind, IsSilent, IsSet, IsAtStage}
 
 -- where the head of a queue of at most one request leaves, nothing is left
 pub head_leaves : (r : QueueEntry) (b : Bool) (q : List QueueEntry) → q ≡ elim b [ true ↦ r ∷ [] | false ↦ [] ] → after_leaving (head_of q) q ≡ []

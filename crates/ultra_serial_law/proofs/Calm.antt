@@ -11,7 +11,7 @@ use Rattle.ultra_model.specs.Machine.{Settings, Machine, size, site, last_stage,
 use Rattle.ultra_model.specs.Phases.{reply_phase, memory_phase, request_phase, processor_phase, entering, with_request, step_at}
 use Rattle.ultra_model.specs.Ranges.{AreInRange}
 use Rattle.ultra_model.proofs.{Each.each-first, OnRoute.some-request, Routes.turns_back, AtPlaces.{memory_module-memory_phase, memory_module-request_phase, element-processor_phase}}
-use Rattle.ultra_hot_spot.proofs.{Others.{IsAway, away_after}, Quiet.{same_queue, element_stays, input_stays}, Behind.{clear_requested, left_requested}, Stages.{IsCalm, IsClear, HasLeft}}
+use Rattle.ultra_serial_law.proofs.{Others.{IsAway, away_after}, Quiet.{same_queue, element_stays, input_stays}, Behind.{clear_requested, left_requested}, Stages.{IsCalm, IsClear, HasLeft}}
 
 -- what a module has to serve is for another cell
 abbrev pub ServesOther : ℕ → ModuleState → Type 0

@@ -8,8 +8,8 @@ use Rattle.ultra_mem.specs.{declared.Placed.Placed, Serve.IsIdle}
 use Rattle.ultra_pni.specs.Interface.{is_open}
 use Rattle.ultra_model.specs.Machine.{Settings, Machine, size, last_stage, lane_at, replies_at, module_at, element_at}
 use Rattle.ultra_model.specs.{Phases.reply_before, Routed.module_of}
-use Rattle.ultra_hot_spot.specs.HotCell.{leads_to, front, on_line, left_at, reached}
-use Rattle.ultra_hot_spot.proofs.Others.{AreOtherEntries, Keeps, IsAway}
+use Rattle.ultra_serial_law.specs.HotCell.{leads_to, front, on_line, left_at, reached}
+use Rattle.ultra_serial_law.proofs.Others.{AreOtherEntries, Keeps, IsAway}
 
 -- ---- the lines of the hot requests
 -- a PE-side position of the switch of a memory-side position

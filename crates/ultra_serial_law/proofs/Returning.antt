@@ -10,9 +10,9 @@ use Rattle.ultra_model.specs.{Places.after_leaving, Ranges.AreInRange, Routed.mo
 use Rattle.ultra_model.specs.Machine.{Settings, Machine, size, last_stage, lane_at, replies_at, reply_exit}
 use Rattle.ultra_model.specs.Phases.{has_reply_room, reply_before, arriving_reply, replies_made, leaving_reply, replies_at_exit, next_replies}
 use Rattle.ultra_model.proofs.{Neighbours.{itself, other, even_half, odd_half}, Routes.two_ports}
-use Rattle.ultra_hot_spot.specs.HotCell.{first_port, second_port, old_of, record_of}
-use Rattle.ultra_hot_spot.proofs.{Meeting.leads_at, Fronts.{front_cell, old_goes, new_goes, front_is_old, old_small}, Quiet.{none_left, none_goes_by}}
-use Rattle.ultra_hot_spot.proofs.Stages.{turned, is_on, IsAsked, fronts, left_behind, AreComing}
+use Rattle.ultra_serial_law.specs.HotCell.{first_port, second_port, old_of, record_of}
+use Rattle.ultra_serial_law.proofs.{Meeting.leads_at, Fronts.{front_cell, old_goes, new_goes, front_is_old, old_small}, Quiet.{none_left, none_goes_by}}
+use Rattle.ultra_serial_law.proofs.Stages.{turned, is_on, IsAsked, fronts, left_behind, AreComing}
 
 four_room : (r : ℕ) → 4 ≤ r → nat_le (0 + 4) r ≡ true
 four_room r h = grind (arith, nat_tests)

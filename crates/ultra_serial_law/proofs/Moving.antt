@@ -7,8 +7,8 @@ use Rattle.ultra_route.specs.Route.{shuffled, unshuffled}
 use Rattle.ultra_switch.specs.Arrive.{Lane, empty_lane, entry}
 use Rattle.ultra_model.specs.{Places.after_leaving, Machine.{Settings, Machine, size, last_stage, lane_at}, Phases.{request_before, leaving_request, entering, request_phase}, Ranges.AreInRange}
 use Rattle.ultra_model.proofs.{Routes.turns_back, RequestBalance.{before_next, leaving_at_last, leaving_below}, AtPlaces.{lane-request_phase, replies-request_phase}}
-use Rattle.ultra_hot_spot.proofs.{Meeting.{all_arrive, hot_requests_reach}, Fronts.front_cell, Others.{Keeps, keeps_alone, AreOtherEntries}, Quiet.{head_of, before_at, stays_empty, entering_is, none_enters}, Behind.{clear_requested, left_requested}, Onward.{head_leaves, hot_queue, hot_records, hot_head}}
-use Rattle.ultra_hot_spot.proofs.Stages.{is_on, IsAsked, fronts, lines, hot_at, left_behind, IsSilent, IsClear, HasLeft, IsAtStage}
+use Rattle.ultra_serial_law.proofs.{Meeting.{all_arrive, hot_requests_reach}, Fronts.front_cell, Others.{Keeps, keeps_alone, AreOtherEntries}, Quiet.{head_of, before_at, stays_empty, entering_is, none_enters}, Behind.{clear_requested, left_requested}, Onward.{head_leaves, hot_queue, hot_records, hot_head}}
+use Rattle.ultra_serial_law.proofs.Stages.{is_on, IsAsked, fronts, lines, hot_at, left_behind, IsSilent, IsClear, HasLeft, IsAtStage}
 
 module _ (c : Settings) (range : AreInRange c) (a n : ℕ) (asked : ℕ → Request) (each : IsAsked c a asked) (some_waits : 1 ≤ c.wait_places) where
   keeps_here : (s x : ℕ) (m : Machine) → lane_at m s x ≡ hot_at c a n asked s x → Keeps a (left_behind c a n asked s x) (lane_at m s x).records

@@ -12,8 +12,8 @@ use Rattle.ultra_model.specs.Machine.{Settings, Machine, Element, size, module_a
 use Rattle.ultra_model.specs.Phases.{delivery, delivered, serving, combination, combinations, lane_after_leaving, arrivals, issue_event, step_at, reply_phase, memory_phase, request_phase, processor_phase, cycle}
 use Rattle.ultra_model.proofs.Each.{each-append, each-present, each-joined, each-places, places_none, places_more}
 use Rattle.ultra_model.proofs.Neighbours.{itself, other}
-use Rattle.ultra_hot_spot.specs.AllAtOnce.{act_on, acts_on}
-use Rattle.ultra_hot_spot.proofs.Calm.{ServesOther}
+use Rattle.ultra_serial_law.specs.AllAtOnce.{act_on, acts_on}
+use Rattle.ultra_serial_law.proofs.Calm.{ServesOther}
 
 present-append : {X : Type 0} (xs ys : List (Option X)) → present (xs ++ ys) ≡ present xs ++ present ys
 present-append [] ys = refl

@@ -4,9 +4,9 @@ use Rattle.ultra_msg.specs.declared.Request.{Request}
 use Rattle.ultra_isa.specs.declared.Instr.{Instr}
 use Rattle.ultra_model.specs.{Machine.{Settings, Machine, start}, Ranges.AreInRange}
 use Rattle.ultra_model.specs.Phases.{reply_phase, memory_phase, request_phase, processor_phase, cycle, after}
-use Rattle.ultra_hot_spot.proofs.{Calm.away_processed, Onward.hot_requests_set_out, Moving.hot_requests_move, Module.{hot_request_enters, inside_replied, hot_request_is_served}, Silence.{set_replied, set_acted, stage_replied, stage_acted, stage_processed}}
-use Rattle.ultra_hot_spot.proofs.Home.{served_comes, returned_comes, returned_acted, returned_moved, returned_processed, served_moved, served_processed}
-use Rattle.ultra_hot_spot.proofs.Stages.{IsAsked, IsInside, IsServed, IsReturned, IsSet, IsAtStage}
+use Rattle.ultra_serial_law.proofs.{Calm.away_processed, Onward.hot_requests_set_out, Moving.hot_requests_move, Module.{hot_request_enters, inside_replied, hot_request_is_served}, Silence.{set_replied, set_acted, stage_replied, stage_acted, stage_processed}}
+use Rattle.ultra_serial_law.proofs.Home.{served_comes, returned_comes, returned_acted, returned_moved, returned_processed, served_moved, served_processed}
+use Rattle.ultra_serial_law.proofs.Stages.{IsAsked, IsInside, IsServed, IsReturned, IsSet, IsAtStage}
 
 module _ (c : Settings) (program : List Instr) where
   same_cycles : (m : Machine) → (memory_phase c (reply_phase c m)).cycles ≡ m.cycles

@@ -9,10 +9,10 @@ use Rattle.ultra_pni.specs.Ring.{no_request}
 use Rattle.ultra_isa.specs.declared.Instr.{Instr}
 use Rattle.ultra_model.specs.{Machine.{Settings, Machine, size, module_at, element_at}, Places.present, Phases.{serving, reply_phase, cycle, after}, Ranges.AreInRange, Routed.{module_of, IsOwn}}
 use Rattle.ultra_model.proofs.{Neighbours.{itself, other}, Routes.module_small, Sound.after_is_sound}
-use Rattle.ultra_hot_spot.specs.AllAtOnce.{acts_on, AreAllAt, AreServedAtOnce, HotCellLaw}
-use Rattle.ultra_hot_spot.proofs.{Fronts.front_cell, Quiet.input_stays, Calm.ServesOther, Module.{inside_replied, served_here}, Home.all_answered, Acts.{acts_of_cycle, one_listed, no_act, serves_one, delivery_listed}, Opened.pending_is_open}
-use Rattle.ultra_hot_spot.proofs.Cycle.{after_next, cycles_after, set_cycle, stage_cycle, last_cycle, inside_cycle, served_cycle, returned_cycle}
-use Rattle.ultra_hot_spot.proofs.Stages.{IsAsked, fronts, placed, IsInside, IsServed, IsReturned, IsSet, IsAtStage}
+use Rattle.ultra_serial_law.specs.AllAtOnce.{acts_on, AreAllAt, AreServedAtOnce, HotCellLaw}
+use Rattle.ultra_serial_law.proofs.{Fronts.front_cell, Quiet.input_stays, Calm.ServesOther, Module.{inside_replied, served_here}, Home.all_answered, Acts.{acts_of_cycle, one_listed, no_act, serves_one, delivery_listed}, Opened.pending_is_open}
+use Rattle.ultra_serial_law.proofs.Cycle.{after_next, cycles_after, set_cycle, stage_cycle, last_cycle, inside_cycle, served_cycle, returned_cycle}
+use Rattle.ultra_serial_law.proofs.Stages.{IsAsked, fronts, placed, IsInside, IsServed, IsReturned, IsSet, IsAtStage}
 
 module _ (c : Settings) (range : AreInRange c) (some_waits : 1 ≤ c.wait_places) (program : List Instr) (n a : ℕ) (w : AreAllAt c a (after c program n)) where
   abbrev first : Machine

@@ -9,8 +9,8 @@ use Rattle.ultra_model.specs.Machine.{Settings, Machine, size, last_stage, repli
 use Rattle.ultra_model.specs.Phases.{reply_before, delivered, entering, reply_phase, memory_phase, request_phase, processor_phase}
 use Rattle.ultra_model.specs.Ranges.{AreInRange}
 use Rattle.ultra_model.proofs.{Routes.turns_back, ReplyBalance.{before_at_last, before_below}, AtPlaces.{replies-reply_phase, memory_module-request_phase, replies-request_phase}}
-use Rattle.ultra_hot_spot.proofs.{Meeting.front_first, Quiet.{none_before, lane_unsplit, no_replies}, Onward.leads_first, Calm.{calm_replied, calm_acted, calm_moved, left_moved, calm_processed}, Module.same_output, Returning.{one_reply, no_reply}}
-use Rattle.ultra_hot_spot.proofs.Stages.{IsAsked, fronts, IsCalm, IsReplyOn, IsServed, AreComing, IsReturned, HasLeft}
+use Rattle.ultra_serial_law.proofs.{Meeting.front_first, Quiet.{none_before, lane_unsplit, no_replies}, Onward.leads_first, Calm.{calm_replied, calm_acted, calm_moved, left_moved, calm_processed}, Module.same_output, Returning.{one_reply, no_reply}}
+use Rattle.ultra_serial_law.proofs.Stages.{IsAsked, fronts, IsCalm, IsReplyOn, IsServed, AreComing, IsReturned, HasLeft}
 
 module _ (c : Settings) (range : AreInRange c) (a n : ℕ) (asked : ℕ → Request) (each : IsAsked c a asked) (some_waits : 1 ≤ c.wait_places) where
   -- ---- the reply phase

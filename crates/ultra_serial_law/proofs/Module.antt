@@ -8,8 +8,8 @@ use Rattle.ultra_mem.specs.Serve.{ModuleState, value_at, act_of, after_serving, 
 use Rattle.ultra_model.specs.{Machine.{Settings, Machine, size, last_stage, module_at}, Ranges.AreInRange, Routed.module_of}
 use Rattle.ultra_model.specs.Phases.{reply_before, reply_phase, memory_phase, request_phase, entering, with_request}
 use Rattle.ultra_model.proofs.{Routes.turns_back, AtPlaces.{memory_module-memory_phase, memory_module-request_phase, replies-request_phase}}
-use Rattle.ultra_hot_spot.proofs.{Fronts.front_cell, Quiet.{none_before, lane_unsplit, no_replies, memory_module_stays}, Moving.{enters_at, clear_of_all, left_everywhere}, Calm.clear_replied}
-use Rattle.ultra_hot_spot.proofs.Stages.{is_on, IsAsked, fronts, placed, held, IsInside, IsServed, IsAtStage}
+use Rattle.ultra_serial_law.proofs.{Fronts.front_cell, Quiet.{none_before, lane_unsplit, no_replies, memory_module_stays}, Moving.{enters_at, clear_of_all, left_everywhere}, Calm.clear_replied}
+use Rattle.ultra_serial_law.proofs.Stages.{is_on, IsAsked, fronts, placed, held, IsInside, IsServed, IsAtStage}
 
 -- a request that comes to a module leaves the reply behind it
 pub same_output : (c : Settings) (memory_module : ModuleState) (o : Option Request) → (with_request c memory_module o).out ≡ memory_module.out

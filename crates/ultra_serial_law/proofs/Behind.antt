@@ -9,8 +9,8 @@ use Rattle.ultra_model.specs.{Places.after_leaving, Ranges.AreInRange}
 use Rattle.ultra_model.specs.Machine.{Settings, Machine, Element, size, lane_at, element_at, request_exit}
 use Rattle.ultra_model.specs.Phases.{has_request_room, request_before, admitted, arriving_request, requests_by, arrivals_by, arrivals, leaving_request, lane_after_leaving, request_phase, without_pending}
 use Rattle.ultra_model.proofs.{Each.{each-append, each-after_leaving, each-first, if_tested}, OnRoute.some-request, Routes.{turns_back, two_ports}, AtPlaces.{lane-request_phase, element-request_phase}}
-use Rattle.ultra_hot_spot.proofs.Others.{AreOthers, AreOtherEntries, Keeps, keeps_alone, IsAfterOthers, after_others, IsAway}
-use Rattle.ultra_hot_spot.proofs.Stages.{IsClear, HasLeft}
+use Rattle.ultra_serial_law.proofs.Others.{AreOthers, AreOtherEntries, Keeps, keeps_alone, IsAfterOthers, after_others, IsAway}
+use Rattle.ultra_serial_law.proofs.Stages.{IsClear, HasLeft}
 
 not_first : (s : ℕ) → (s == 0) ≡ false → 1 ≤ s
 not_first s h = grind (arith, nat_tests)

@@ -9,9 +9,9 @@ use Rattle.ultra_model.specs.{Places.after_leaving, Ranges.AreInRange, Routed.mo
 use Rattle.ultra_model.specs.Machine.{Settings, Machine, size, last_stage, lane_at, request_exit}
 use Rattle.ultra_model.specs.Phases.{arrive_all, has_request_room, request_before, admitted, arriving_request, requests_by, arrivals_by, arrivals, lane_after_leaving, leaving_request, next_lane}
 use Rattle.ultra_model.proofs.{Neighbours.{itself, even_half, odd_half}, Routes.{module_small, turns_back, two_ports}}
-use Rattle.ultra_hot_spot.specs.HotCell.{first_port, second_port, front, old_of, new_of, record_of}
-use Rattle.ultra_hot_spot.proofs.Lines.{Leads, lead}
-use Rattle.ultra_hot_spot.proofs.Stages.{IsPort, turned, is_on, fronts, lines, hot_at}
+use Rattle.ultra_serial_law.specs.HotCell.{first_port, second_port, front, old_of, new_of, record_of}
+use Rattle.ultra_serial_law.proofs.Lines.{Leads, lead}
+use Rattle.ultra_serial_law.proofs.Stages.{IsPort, turned, is_on, fronts, lines, hot_at}
 
 -- ---- an empty lane
 room : (w : ℕ) → 1 ≤ w → nat_lt 0 w ≡ true

@@ -13,8 +13,8 @@ use Rattle.ultra_model.specs.Phases.{after, cycle, arriving_request, request_bef
 use Rattle.ultra_model.specs.Ranges.{AreInRange}
 use Rattle.ultra_model.proofs.Routes.{turns_back}
 use Rattle.ultra_model.proofs.AtPlaces.{lane-start, replies-start, memory_module-start, element-start, element-request_phase, element-processor_phase, replies-request_phase}
-use Rattle.ultra_hot_spot.specs.AllAtOnce.{AreAllAt, HotCellOccurs}
-use Rattle.ultra_hot_spot.proofs.{Quiet.{head_of, before_at, stays_empty, none_enters}, Silence.{lane_is, element_is, silent_replied, silent_acted}, Stages.IsSilent}
+use Rattle.ultra_serial_law.specs.AllAtOnce.{AreAllAt, HotCellOccurs}
+use Rattle.ultra_serial_law.proofs.{Quiet.{head_of, before_at, stays_empty, none_enters}, Silence.{lane_is, element_is, silent_replied, silent_acted}, Stages.IsSilent}
 
 -- nothing has happened yet
 record IsFresh (c : Settings) (m : Machine) : Type 0 where

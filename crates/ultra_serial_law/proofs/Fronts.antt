@@ -4,9 +4,9 @@ use Rattle.ultra_msg.specs.declared.Request.{Request}
 use Rattle.ultra_route.specs.Route.{shuffled, unshuffled, bit_of, with_lowest, line_of, entry_of}
 use Rattle.ultra_model.specs.{Machine.{Settings, size, last_stage}, Ranges.AreInRange, Routed.module_of}
 use Rattle.ultra_model.proofs.Routes.{route, route_ends, turns_back}
-use Rattle.ultra_hot_spot.specs.HotCell.{first_port, second_port, old_of, new_of}
-use Rattle.ultra_hot_spot.proofs.Meeting.{first_is_port, second_is_port, port_turns, port_on, front_next, front_first}
-use Rattle.ultra_hot_spot.proofs.Stages.{IsPort, is_on, IsOn, GoesBy, IsAsked, fronts}
+use Rattle.ultra_serial_law.specs.HotCell.{first_port, second_port, old_of, new_of}
+use Rattle.ultra_serial_law.proofs.Meeting.{first_is_port, second_is_port, port_turns, port_on, front_next, front_first}
+use Rattle.ultra_serial_law.proofs.Stages.{IsPort, is_on, IsOn, GoesBy, IsAsked, fronts}
 
 module _ (c : Settings) (range : AreInRange c) (a n : ℕ) (asked : ℕ → Request) (each : IsAsked c a asked) where
   -- the lines of the two that meet

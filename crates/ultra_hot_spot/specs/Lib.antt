@@ -1,2 +1,0 @@
-pub mod HotCell
-pub mod AllAtOnce
