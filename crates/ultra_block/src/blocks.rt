@@ -27,7 +27,7 @@ use ultra_switch::{Ports, ToMm, ToPe};
 use ultra_topology::{UnitSet, element_number, module_number, switch_number};
 use ultra_unit_steps::ProcessingElement;
 
-/// The parts of a machine in blocks, for those who make the halves of a cycle themselves.
+/// The parts of a partitioned machine, for callers that drive the halves of a cycle themselves.
 #[derive(Drop)]
 pub struct Parts {
     /// The machine's settings.

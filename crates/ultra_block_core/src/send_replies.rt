@@ -78,7 +78,7 @@ fn send_from_switch<const OPEN: bool>(
 }
 
 impl Block {
-    /// What had happened in the cycle before is forgotten.
+    /// Clears the events and faults of the cycle before.
     #[inline(always)]
     fn clear_events(&mut self)
         ensures { self.new ≡ without_events self.old }
@@ -122,7 +122,7 @@ impl Block {
     }
 
     /// The first half of a cycle: replies leave the switches and modules for where there is room,
-    /// onto their links. What had happened in the cycle before is forgotten.
+    /// onto their links. Clears the events and faults of the cycle before.
     #[inline(always)]
     pub fn send_replies(&mut self, rooms: &Rooms)
         ensures { self.new ≡ after_units (sends_replies rooms.now.no_reply_room) MOST_UNITS

@@ -172,7 +172,7 @@ impl Block {
         self.send_requests_sized::<false>(&rooms.no_request_room);
     }
 
-    /// The same half in a block that has all units: it knows all rooms itself.
+    /// The same half for a block that holds every unit and so knows all free space.
     #[inline(always)]
     pub fn send_requests_by_own_rooms<const SMALL: bool>(&mut self)
         requires small { SMALL ≡ true → IsSmall self.old.stages }

@@ -66,8 +66,8 @@ fn take_into_switch(
 }
 
 impl Block {
-    /// The fifth half of a cycle: takes the requests on links that lead to units here. They go into
-    /// the queues of switches, where they may combine, and into the registers of modules.
+    /// The fifth half of a cycle: takes the requests on links that lead to this block's units. They
+    /// go into the queues of switches, where they may combine, and into the registers of modules.
     ///
     /// Each queue must have room for what has come, and the register of the module must be empty.
     #[inline(always)]

@@ -240,7 +240,7 @@ impl Processor {
         }
     }
 
-    /// Whether an instruction would stall that has this effect.
+    /// Whether an instruction with this effect would stall.
     fn effect_would_stall(&self, effect: Effect, interface: &Pni) -> bool
         ensures { result ≡ is_stall (does self.now.site interface.now.most_open self.now.core
             interface.now.interface (meaning effect)).was }
@@ -448,7 +448,7 @@ impl Processor {
         self.pc += 1;
     }
 
-    /// Stops for good.
+    /// Stops the PE permanently with this fault.
     fn fault(&mut self, fault: MachineFault) -> Step
         ensures core { self.new ≡
             record self.old { core = record self.old.core { activity = Activity.Faulted fault } } }

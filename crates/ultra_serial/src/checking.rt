@@ -217,7 +217,7 @@ fn lowest_used(
     found
 }
 
-/// The lower of an address that was found before and this one, if the memories differ at it.
+/// The lower of `found` and `cell`, counting `cell` only if the memories differ there.
 fn lower(left: &DenseMemory, right: &DenseMemory, cell: Cell, found: Option<Cell>) -> Option<Cell>
     ensures kept { (a : ℕ) → IsFine (dense_cells left.now) (dense_cells right.now) found a →
         IsFine (dense_cells left.now) (dense_cells right.now) result a }

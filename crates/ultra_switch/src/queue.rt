@@ -1,4 +1,4 @@
-//! Queues whose first item lies in place.
+//! Queues that store their first item inline.
 
 ghost use Rattle.std.specs.Prelude.{◌≡◌, ◌+◌, ◌^◌, ◌<◌, ◌≤◌, ◌==◌, [], ◌∷◌, ◌++◌, length, drop, slice_get, slice_set, IfOk, Some};
 ghost use Rattle.circular_buffer.specs.Buffer.{buffer};

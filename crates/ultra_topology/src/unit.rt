@@ -27,7 +27,7 @@ pub(crate) fn place_from(number: usize, first: usize, size: usize) -> Option<u32
     ensures some { IfSome result (λ place. (place < size) × (number ≡ first + place)) }
     ensures none { IfNone result ((first ≤ number) → first + size ≤ number) }
 {
-    // below `first` it wraps to a great number
+    // numbers below `first` wrap around to huge values
     let place = number.wrapping_sub(first);
     if place < size {
         Some(place as u32)
@@ -48,7 +48,7 @@ pub(crate) fn place_of(net: Net, number: usize) -> (u32, u32)
     ((number >> high) as u32, (number % (1 << high)) as u32)
 }
 
-/// As many empty entries. An error says that memory was refused.
+/// Returns `count` empty entries. Fails only if memory is refused.
 pub fn empty_entries<T: Drop>(alloc: Global, count: usize) -> Result<Vec<Option<T>>, AllocError>
     ensures { IfOk result (λ v. v.items ≡ replicate count None) }
 {

@@ -62,7 +62,8 @@ impl UnitNumber {
         self.number
     }
 
-    /// The unit again. In a `SMALL` machine the compiler then knows that its number is below 64.
+    /// Returns the unit unchanged; in a `SMALL` machine this tells the compiler that its number is
+    /// below 64.
     #[inline(always)]
     pub(crate) fn narrow<const SMALL: bool>(self) -> UnitNumber
         requires { SMALL ≡ true → self < 64 }
