@@ -1,14 +1,17 @@
 -- the lines of a cycle, by the open requests
-use Rattle.std.proofs.Common.{ℕ, ◌≡◌, ◌+◌, List, [], ◌∷◌, ◌++◌, Bool, true, false, length, append-nil, refl, sym, ap, ◌∙◌, subst}
+use Rattle.std.proofs.Common.{ℕ, ◌≡◌, ◌+◌, ◌<◌, List, [], ◌∷◌, ◌++◌, Bool, true, false, length, append-nil, refl, sym, ap, ◌∙◌, subst, arith}
+use Rattle.std.specs.Prelude.{Some}
 use Rattle.std.specs.List.{flat_map}
+use Rattle.std.proofs.lemmas.Bool.Decides.{nat_tests}
 use Rattle.ultra_msg.specs.declared.Event.{Event, TheVariants.{Delivered, Served, Combined, Issued}}
 use Rattle.ultra_isa.specs.declared.Instr.{Instr}
-use Rattle.ultra_model.specs.{Machine.Settings, Phases.after}
+use Rattle.ultra_model.specs.{Machine.Settings, Phases.after, Trace.by_number}
 use Rattle.ultra_serial_law.specs.{declared.records.LoggedIssue.LoggedIssue, Log.{is_issue_for, latest_number}, SerialList.history}
-use Rattle.ultra_trace_alone.specs.RunText.{run_text}
+use Rattle.ultra_trace_alone.specs.RunText.{TextPieces, cycles_made, run_text}
+use Rattle.ultra_trace_alone.proofs.Count.{nothing_behind}
 use Rattle.ultra_latency.specs.{declared.open.OpenRequest.OpenRequest, Latency.{latest_among, latest_issue, no_issue}}
 use Rattle.ultra_latency.specs.Open.{open_rows, rows_with, IsOpenIn, IsOpenLaw, NamesOpen, NameOpen}
-use Rattle.ultra_requests.specs.{Along.{along, event_line_at, number_in_rows, number_if_open, HaveRows}, EventLines.{event_line, events_of, open_number, shown_of_cycle}}
+use Rattle.ultra_requests.specs.{Along.{along, event_line_at, number_in_rows, number_if_open, HaveRows}, EventLines.{event_line, events_of, if_shown, is_shown, lines_of_cycle, open_number, shown_of_cycle}}
 
 -- the number of the latest issue
 number_if : (p a : ℕ) (is : List LoggedIssue) (j i : LoggedIssue) (b : Bool) → ((k : LoggedIssue) → latest_number p a is k.number ≡ (latest_among p a is k).number)
@@ -59,7 +62,15 @@ module _ (c : Settings) (program : List Instr) (n : ℕ) (law : IsOpenLaw c prog
       ∙ ap (along event_line_at n (open_rows c program n)) is
       ∙ lines_named c program n (open_rows c program n) (after c program (n + 1)).events law.named
 
--- the lines of all cycles, with nothing before and behind them
-pub events_are : (from to : ℕ) (c : Settings) (program : List Instr) → run_text [] (shown_of_cycle from to) (λ c program. []) c program ≡ events_of from to c program
+-- the lines of the cycles up to the last that is asked for, with nothing before and behind them
+hidden : (from to n : ℕ) → to < n → is_shown from to n ≡ false
+hidden from to n behind = grind (arith, nat_tests)
+
+abbrev pub event_pieces : ℕ → ℕ → TextPieces
+event_pieces from to = record { opening = []; lines = shown_of_cycle from to; closing = λ c program. []; last = Some to }
+
+pub events_are : (from to : ℕ) (c : Settings) (program : List Instr) → run_text (event_pieces from to) c program ≡ events_of from to c program
 unfolding run_text events_of
-events_are from to c program = append-nil _
+events_are from to c program =
+    append-nil (by_number (cycles_made c program to) (shown_of_cycle from to c program))
+    ∙ nothing_behind c program to (shown_of_cycle from to c program) (λ k behind. ap (λ shown. if_shown shown (lines_of_cycle c program k)) (hidden from to k behind))

@@ -123,7 +123,7 @@ module _ (c : Settings) (range : AreInRange c) (program : List Instr) where
       (subst (λ xs. AllByRecursion (FindIn (issues c program (n + 1))) xs) (sym (answers_next c range program n))
       (each-append (FindIn (issues c program (n + 1))) (answers c program n) (answers_of_cycle c program n) (each_longer n (answers c program n) (all_find n)) (each_longer n (answers_of_cycle c program n) now)))
 
-  pub table_is : run_text header_line (rows_of_cycle) (rows_at_end) c program ≡ requests_of c program
+  pub table_is : run_text record { opening = header_line; lines = rows_of_cycle; closing = rows_at_end; last = None } c program ≡ requests_of c program
   unfolding run_text requests_of rows_at_end
   table_is =
       let n = cycle_count c program in

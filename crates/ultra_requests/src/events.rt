@@ -1,6 +1,6 @@
 //! The events of a run.
 
-ghost use Rattle.std.specs.Prelude.{◌≡◌, ◌≢◌, ◌+◌, ◌<◌, [], ◌++◌, OnOk, OnErr, IfErr};
+ghost use Rattle.std.specs.Prelude.{◌≡◌, ◌≢◌, ◌+◌, ◌<◌, [], ◌++◌, Some, OnOk, OnErr, IfErr};
 ghost use Rattle.ultra_msg.specs.Bytes.{TakesPrefix};
 ghost use Rattle.ultra_io.specs.TextBuffer.{Writes};
 ghost use Rattle.ultra_latency.specs.Open.{IsOpenTable};
@@ -19,7 +19,7 @@ use ultra_trace_alone::{RunFault, RunText, write_run};
 
 /// Runs a program on a machine of these settings in the caller's thread. Writes a line for each
 /// event of the cycles from `from` to `to` to the sink; after a fault the sink has taken a prefix
-/// of them. What it holds doesn't grow with the number of cycles.
+/// of them. Cycles behind `to` aren't made. What it holds doesn't grow with the number of cycles.
 ///
 /// `Write` says that the sink failed, and `NoMemory` that memory was refused; it is asked for only
 /// before the first byte is written. `NoThread` is never answered.
@@ -57,15 +57,20 @@ pub(crate) struct EventText {
 }
 
 impl RunText for EventText {
-    ghost opening = { [] };
-
-    ghost lines = { λ t. shown_of_cycle t.from t.to };
-
-    ghost closing = { λ _ _. [] };
+    ghost pieces = { λ t. record {
+      opening = [];
+      lines = shown_of_cycle t.from t.to;
+      closing = λ _ _. [];
+      last = Some t.to;
+    } };
 
     ghost takes = { λ count. count ≡ 1 };
 
     ghost is_ready = { λ t c program n. IsOpenTable c program n t.table };
+
+    fn last_cycle(&self) -> Option<u32> {
+        Some(self.to)
+    }
 
     fn put_opening<S: Sink>(&self, _buffer: &mut TextBuffer<'_, S>) {}
 

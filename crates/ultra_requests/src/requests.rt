@@ -1,6 +1,6 @@
 //! The requests of a run.
 
-ghost use Rattle.std.specs.Prelude.{◌≡◌, ◌≢◌, ◌+◌, ◌<◌, ◌++◌, OnOk, OnErr, IfErr};
+ghost use Rattle.std.specs.Prelude.{◌≡◌, ◌≢◌, ◌+◌, ◌<◌, ◌++◌, None, OnOk, OnErr, IfErr};
 ghost use Rattle.ultra_msg.specs.Bytes.{TakesPrefix};
 ghost use Rattle.ultra_io.specs.TextBuffer.{Writes};
 ghost use Rattle.ultra_latency.specs.Open.{IsOpenTable};
@@ -54,15 +54,20 @@ pub(crate) struct RequestText {
 }
 
 impl RunText for RequestText {
-    ghost opening = { header_line };
-
-    ghost lines = { λ _. rows_of_cycle };
-
-    ghost closing = { rows_at_end };
+    ghost pieces = { λ _. record {
+      opening = header_line;
+      lines = rows_of_cycle;
+      closing = rows_at_end;
+      last = None;
+    } };
 
     ghost takes = { λ count. count ≡ 1 };
 
     ghost is_ready = { λ t c program n. IsOpenTable c program n t.table };
+
+    fn last_cycle(&self) -> Option<u32> {
+        None
+    }
 
     fn put_opening<S: Sink>(&self, buffer: &mut TextBuffer<'_, S>) {
         put_header(buffer);

@@ -4,9 +4,9 @@ ghost use Rattle.std.specs.Prelude.{◌≡◌, ℕ, ◌+◌, ◌≤◌, ◌++◌
 ghost use Rattle.std.specs.Result.{ForOk};
 ghost use Rattle.ultra_msg.specs.Bytes.{TakesPrefix};
 ghost use Rattle.ultra_io.specs.TextBuffer.{IsBlank, Writes, WritesPrefix, has_failed};
-ghost use Rattle.ultra_model.specs.Trace.{by_number, cycle_count};
+ghost use Rattle.ultra_model.specs.Trace.{by_number};
 ghost use Rattle.ultra_crew.specs.ExpectedResults.{AreExpectedResults};
-ghost use Rattle.ultra_trace_alone.specs.{declared.fault.RunFault.TheVariants.Write, Faults.sink_faults, BlocksAfter.IsAfter, Dealt.IsDealtOut, RunText.run_text};
+ghost use Rattle.ultra_trace_alone.specs.{declared.fault.RunFault.TheVariants.Write, Faults.sink_faults, BlocksAfter.IsAfter, Dealt.IsDealtOut, RunText.{cycles_for, run_text}};
 ghost use Rattle.ultra_trace.specs.Faults.{fault_of_crew};
 
 use std::alloc::Global;
@@ -36,10 +36,10 @@ pub fn write_run_together<R: Threads + Wait + Sync, G: Gate + Sync, T: RunText, 
     requires ready { T.is_ready text blocks.config blocks.program 0 }
     requires dealt { IsDealtOut workers blocks.partition }
     ensures ok { OnOk result (S.taken sink.new ≡ S.taken sink.old ++
-        run_text T.opening (T.lines text) T.closing blocks.config blocks.program) }
+        run_text (T.pieces text) blocks.config blocks.program) }
     ensures still { OnOk result (S.failures sink.new ≡ S.failures sink.old) }
     ensures err { OnErr result
-        (TakesPrefix (run_text T.opening (T.lines text) T.closing blocks.config blocks.program)
+        (TakesPrefix (run_text (T.pieces text) blocks.config blocks.program)
         (S.taken sink.old) (S.taken sink.new)) }
     ensures counted { IfErr result (λ e.
         S.failures sink.new ≡ S.failures sink.old + sink_faults e) }
@@ -74,10 +74,10 @@ fn write_by_workers<
     requires ready { T.is_ready text blocks.config blocks.program 0 }
     ensures same_reference { result.0.ghost_name ≡ sink.entry.ghost_name }
     ensures ok { OnOk result.1 (S.taken result.0.now ≡ S.taken sink.entry.now ++
-        run_text T.opening (T.lines text) T.closing blocks.config blocks.program) }
+        run_text (T.pieces text) blocks.config blocks.program) }
     ensures still { OnOk result.1 (S.failures result.0.now ≡ S.failures sink.entry.now) }
     ensures err { OnErr result.1
-        (TakesPrefix (run_text T.opening (T.lines text) T.closing blocks.config blocks.program)
+        (TakesPrefix (run_text (T.pieces text) blocks.config blocks.program)
         (S.taken sink.entry.now) (S.taken result.0.now)) }
     ensures counted { IfErr result.1 (λ e.
         S.failures result.0.now ≡ S.failures sink.entry.now + sink_faults e) }
@@ -93,10 +93,11 @@ fn write_by_workers<
             requires ready { T.is_ready text blocks.config blocks.program 0 }
             ensures same_reference { result.0.ghost_name ≡ sink.entry.ghost_name }
             ensures ok { OnOk result.1 (S.taken result.0.now ≡ S.taken sink.entry.now ++
-                run_text T.opening (T.lines text) T.closing blocks.config blocks.program) }
+                run_text (T.pieces text) blocks.config blocks.program) }
             ensures still { OnOk result.1 (S.failures result.0.now ≡ S.failures sink.entry.now) }
-            ensures err { OnErr result.1 (TakesPrefix (run_text T.opening (T.lines text) T.closing
-                blocks.config blocks.program) (S.taken sink.entry.now) (S.taken result.0.now)) }
+            ensures err { OnErr result.1
+                (TakesPrefix (run_text (T.pieces text) blocks.config blocks.program)
+                (S.taken sink.entry.now) (S.taken result.0.now)) }
             ensures counted { IfErr result.1 (λ e.
                 S.failures result.0.now ≡ S.failures sink.entry.now + sink_faults e) }
         {
@@ -124,10 +125,10 @@ fn write_by_started<J: ExpectedResults, R: Threads + Wait, T: RunText, S: Sink>(
     requires takes { (count : ℕ) → T.takes count }
     requires ready { T.is_ready text blocks.config blocks.program 0 }
     ensures ok { OnOk result (S.taken sink.new ≡ S.taken sink.old ++
-        run_text T.opening (T.lines text) T.closing blocks.config blocks.program) }
+        run_text (T.pieces text) blocks.config blocks.program) }
     ensures still { OnOk result (S.failures sink.new ≡ S.failures sink.old) }
     ensures err { OnErr result
-        (TakesPrefix (run_text T.opening (T.lines text) T.closing blocks.config blocks.program)
+        (TakesPrefix (run_text (T.pieces text) blocks.config blocks.program)
         (S.taken sink.old) (S.taken sink.new)) }
     ensures counted { IfErr result (λ e.
         S.failures sink.new ≡ S.failures sink.old + sink_faults e) }
@@ -159,10 +160,10 @@ fn write_by_pool<J: ExpectedResults, R: Wait, T: RunText, S: Sink>(
     requires takes { (count : ℕ) → T.takes count }
     requires ready { T.is_ready text blocks.config blocks.program 0 }
     ensures ok { OnOk result (S.taken sink.new ≡ S.taken sink.old ++
-        run_text T.opening (T.lines text) T.closing blocks.config blocks.program) }
+        run_text (T.pieces text) blocks.config blocks.program) }
     ensures still { OnOk result (S.failures sink.new ≡ S.failures sink.old) }
     ensures err { OnErr result
-        (TakesPrefix (run_text T.opening (T.lines text) T.closing blocks.config blocks.program)
+        (TakesPrefix (run_text (T.pieces text) blocks.config blocks.program)
         (S.taken sink.old) (S.taken sink.new)) }
     ensures counted { IfErr result (λ e.
         S.failures sink.new ≡ S.failures sink.old + sink_faults e) }
@@ -208,10 +209,10 @@ fn put_text_together<J: ExpectedResults, R: Wait, T: RunText, S: Sink>(
     requires ready { T.is_ready text blocks.config blocks.program 0 }
     requires sound { has_failed buffer.old ≡ false }
     ensures ok { OnOk result (Writes S.taken S.failures
-        (run_text T.opening (T.lines text) T.closing blocks.config blocks.program)
+        (run_text (T.pieces text) blocks.config blocks.program)
         buffer.old buffer.new) }
     ensures err { OnErr result (WritesPrefix S.taken S.failures
-        (run_text T.opening (T.lines text) T.closing blocks.config blocks.program)
+        (run_text (T.pieces text) blocks.config blocks.program)
         buffer.old buffer.new) }
     ensures sound { OnErr result (has_failed buffer.new ≡ false) }
 {
@@ -227,8 +228,8 @@ fn put_text_together<J: ExpectedResults, R: Wait, T: RunText, S: Sink>(
     Ok(())
 }
 
-/// Runs a machine from its start to the end of its trace by workers, and writes the lines of all
-/// cycles. It ends early where the sink or a worker fails.
+/// Runs a machine from its start to the end of its trace by workers, or to the last cycle that the
+/// text needs, and writes the lines of these cycles. It ends early where the sink or a worker fails.
 fn put_cycles_together<J: ExpectedResults, R: Wait, T: RunText, S: Sink>(
     buffer: &mut TextBuffer<'_, S>,
     rt: &R,
@@ -243,19 +244,21 @@ fn put_cycles_together<J: ExpectedResults, R: Wait, T: RunText, S: Sink>(
     requires takes { (count : ℕ) → T.takes count }
     requires ready { T.is_ready text.old blocks.config blocks.program 0 }
     requires sound { has_failed buffer.old ≡ false }
-    ensures writes { OnOk result
-        (Writes S.taken S.failures (by_number (cycle_count blocks.config blocks.program)
-        (T.lines text.old blocks.config blocks.program)) buffer.old buffer.new) }
+    ensures writes { OnOk result (Writes S.taken S.failures
+        (by_number (cycles_for blocks.config blocks.program (T.pieces text.old).last)
+        ((T.pieces text.old).lines blocks.config blocks.program)) buffer.old buffer.new) }
+    ensures same { OnOk result (T.pieces text.new ≡ T.pieces text.old) }
     ensures end { IfOk result (λ b. has_failed buffer.new ≡ false →
-        IsAfter blocks.config blocks.program (cycle_count blocks.config blocks.program) b) }
+        IsAfter blocks.config blocks.program
+        (cycles_for blocks.config blocks.program (T.pieces text.old).last) b) }
     ensures ready { OnOk result (has_failed buffer.new ≡ false → T.is_ready text.new blocks.config
-        blocks.program (cycle_count blocks.config blocks.program)) }
-    ensures err { OnErr result
-        (WritesPrefix S.taken S.failures (by_number (cycle_count blocks.config blocks.program)
-        (T.lines text.old blocks.config blocks.program)) buffer.old buffer.new) }
+        blocks.program (cycles_for blocks.config blocks.program (T.pieces text.old).last)) }
+    ensures err { OnErr result (WritesPrefix S.taken S.failures
+        (by_number (cycles_for blocks.config blocks.program (T.pieces text.old).last)
+        ((T.pieces text.old).lines blocks.config blocks.program)) buffer.old buffer.new) }
     ensures sound { OnErr result (has_failed buffer.new ≡ false) }
 {
-    for cycle in 0..most_cycles(&blocks) {
+    for cycle in 0..most_cycles(&blocks, text.last_cycle()) {
         blocks = pool.cycle(rt, alloc, blocks)?;
         text.put_lines(buffer, &blocks, cycle);
         if is_over(buffer, &blocks) {

@@ -2,9 +2,9 @@
 
 ghost use Rattle.std.specs.Prelude.{◌≡◌, ◌+◌, ◌≤◌, ◌++◌, ◌||◌, false, OnOk, OnErr};
 ghost use Rattle.ultra_msg.specs.Bytes.{TakesPrefix};
-ghost use Rattle.ultra_model.specs.{Machine.is_quiet, Trace.{by_number, cycle_count}, declared.config.TheConstants.MOST_CYCLES};
+ghost use Rattle.ultra_model.specs.{Machine.is_quiet, Trace.by_number, declared.config.TheConstants.MOST_CYCLES};
 ghost use Rattle.ultra_io.specs.TextBuffer.{Writes, has_failed};
-ghost use Rattle.ultra_trace_alone.specs.{BlocksAfter.IsAfter, RunText.run_text};
+ghost use Rattle.ultra_trace_alone.specs.{BlocksAfter.IsAfter, RunText.{cycles_for, most_for, run_text}};
 
 use crate::text::RunText;
 use ultra_block::Blocks;
@@ -22,10 +22,11 @@ pub(crate) fn write_text<T: RunText, S: Sink>(
     requires start { IsAfter blocks.old.config blocks.old.program 0 blocks.old }
     requires ready { T.is_ready text.old blocks.old.config blocks.old.program 0 }
     ensures ok { OnOk result (S.taken sink.new ≡ S.taken sink.old ++
-        run_text T.opening (T.lines text.old) T.closing blocks.old.config blocks.old.program) }
+        run_text (T.pieces text.old) blocks.old.config blocks.old.program) }
     ensures still { OnOk result (S.failures sink.new ≡ S.failures sink.old) }
-    ensures err { OnErr result (TakesPrefix (run_text T.opening (T.lines text.old) T.closing
-        blocks.old.config blocks.old.program) (S.taken sink.old) (S.taken sink.new)) }
+    ensures err { OnErr result
+        (TakesPrefix (run_text (T.pieces text.old) blocks.old.config blocks.old.program)
+        (S.taken sink.old) (S.taken sink.new)) }
     ensures counted { OnErr result (S.failures sink.new ≡ S.failures sink.old + 1) }
 {
     let mut buffer = TextBuffer::new(sink);
@@ -39,7 +40,7 @@ fn put_text<T: RunText, S: Sink>(buffer: &mut TextBuffer<'_, S>, blocks: &mut Bl
     requires start { IsAfter blocks.old.config blocks.old.program 0 blocks.old }
     requires ready { T.is_ready text.old blocks.old.config blocks.old.program 0 }
     ensures { Writes S.taken S.failures
-        (run_text T.opening (T.lines text.old) T.closing blocks.old.config blocks.old.program)
+        (run_text (T.pieces text.old) blocks.old.config blocks.old.program)
         buffer.old buffer.new }
 {
     text.put_opening(buffer);
@@ -50,8 +51,8 @@ fn put_text<T: RunText, S: Sink>(buffer: &mut TextBuffer<'_, S>, blocks: &mut Bl
     text.put_closing(buffer, blocks);
 }
 
-/// Runs a machine from its start to the end of its trace, and writes the lines of all cycles. It
-/// ends early where the sink fails.
+/// Runs a machine from its start to the end of its trace, or to the last cycle that the text needs,
+/// and writes the lines of these cycles. It ends early where the sink fails.
 fn put_cycles<T: RunText, S: Sink>(
     buffer: &mut TextBuffer<'_, S>,
     blocks: &mut Blocks,
@@ -61,15 +62,17 @@ fn put_cycles<T: RunText, S: Sink>(
     requires start { IsAfter blocks.old.config blocks.old.program 0 blocks.old }
     requires ready { T.is_ready text.old blocks.old.config blocks.old.program 0 }
     ensures writes { Writes S.taken S.failures
-        (by_number (cycle_count blocks.old.config blocks.old.program)
-        (T.lines text.old blocks.old.config blocks.old.program)) buffer.old buffer.new }
+        (by_number (cycles_for blocks.old.config blocks.old.program (T.pieces text.old).last)
+        ((T.pieces text.old).lines blocks.old.config blocks.old.program)) buffer.old buffer.new }
     ensures takes { T.takes blocks.new.count }
+    ensures same { T.pieces text.new ≡ T.pieces text.old }
     ensures end { has_failed buffer.new ≡ false → IsAfter blocks.old.config blocks.old.program
-        (cycle_count blocks.old.config blocks.old.program) blocks.new }
+        (cycles_for blocks.old.config blocks.old.program (T.pieces text.old).last) blocks.new }
     ensures ready { has_failed buffer.new ≡ false → T.is_ready text.new blocks.old.config
-        blocks.old.program (cycle_count blocks.old.config blocks.old.program) }
+        blocks.old.program
+        (cycles_for blocks.old.config blocks.old.program (T.pieces text.old).last) }
 {
-    for cycle in 0..most_cycles(blocks) {
+    for cycle in 0..most_cycles(blocks, text.last_cycle()) {
         blocks.cycle();
         text.put_lines(buffer, blocks, cycle);
         if is_over(buffer, blocks) {
@@ -87,10 +90,15 @@ pub fn is_over<S: Sink>(buffer: &TextBuffer<'_, S>, blocks: &Blocks) -> bool
     blocks.is_quiet() || buffer.has_failed()
 }
 
-/// How many cycles the settings allow.
-pub fn most_cycles(blocks: &Blocks) -> u32
-    ensures value { result ≡ blocks.now.config.cycles }
+/// How many cycles are made where the machine isn't quiet before: as many as the settings allow,
+/// but none behind the last one that is needed.
+pub fn most_cycles(blocks: &Blocks, last: Option<u32>) -> u32
+    ensures value { result ≡ most_for blocks.now.config last }
     ensures small { result ≤ MOST_CYCLES }
 {
-    blocks.config().cycles()
+    let allowed = blocks.config().cycles();
+    match last {
+        Some(last) if last < allowed => last + 1,
+        _ => allowed,
+    }
 }

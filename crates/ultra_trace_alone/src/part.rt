@@ -1,6 +1,6 @@
 //! The trace of a run, whole or in part.
 
-ghost use Rattle.std.specs.Prelude.{◌≡◌, ⊤, ◌+◌, ◌<◌, ◌≤◌, ◌++◌, codes};
+ghost use Rattle.std.specs.Prelude.{◌≡◌, ⊤, ◌+◌, ◌<◌, ◌≤◌, ◌++◌, None, codes};
 ghost use Rattle.ultra_io.specs.TextBuffer.{Writes};
 ghost use Rattle.ultra_model.specs.{Phases.after, Trace.{cycle_text, first_line}};
 ghost use Rattle.ultra_trace_alone.specs.Part.{chosen_lines, part_lines, trace_end};
@@ -38,15 +38,20 @@ pub struct TracePart {
 pub struct WholeTrace;
 
 impl RunText for WholeTrace {
-    ghost opening = { first_line };
-
-    ghost lines = { λ _ c program k. cycle_text c (after c program (k + 1)) };
-
-    ghost closing = { trace_end };
+    ghost pieces = { λ _. record {
+      opening = first_line;
+      lines = λ c program k. cycle_text c (after c program (k + 1));
+      closing = trace_end;
+      last = None;
+    } };
 
     ghost takes = { λ _. ⊤ };
 
     ghost is_ready = { λ _ _ _ _. ⊤ };
+
+    fn last_cycle(&self) -> Option<u32> {
+        None
+    }
 
     #[inline(always)]
     fn put_opening<S: Sink>(&self, buffer: &mut TextBuffer<'_, S>) {
@@ -65,15 +70,20 @@ impl RunText for WholeTrace {
 }
 
 impl RunText for TracePart {
-    ghost opening = { first_line };
-
-    ghost lines = { part_lines };
-
-    ghost closing = { trace_end };
+    ghost pieces = { λ part. record {
+      opening = first_line;
+      lines = part_lines part;
+      closing = trace_end;
+      last = None;
+    } };
 
     ghost takes = { λ _. ⊤ };
 
     ghost is_ready = { λ _ _ _ _. ⊤ };
+
+    fn last_cycle(&self) -> Option<u32> {
+        None
+    }
 
     fn put_opening<S: Sink>(&self, buffer: &mut TextBuffer<'_, S>) {
         put_first_line(buffer);

@@ -86,11 +86,11 @@ pub fn write_run<T: RunText, S: Sink>(
     requires takes { T.takes 1 }
     requires ready { T.is_ready text config.now program.now 0 }
     ensures ok { OnOk result (S.taken sink.new ≡
-        S.taken sink.old ++ run_text T.opening (T.lines text) T.closing config.now program.now) }
+        S.taken sink.old ++ run_text (T.pieces text) config.now program.now) }
     ensures still { OnOk result (S.failures sink.new ≡ S.failures sink.old) }
     ensures err { OnErr result
-        (TakesPrefix (run_text T.opening (T.lines text) T.closing config.now program.now)
-        (S.taken sink.old) (S.taken sink.new)) }
+        (TakesPrefix (run_text (T.pieces text) config.now program.now) (S.taken sink.old)
+        (S.taken sink.new)) }
     ensures counted { IfErr result (λ e.
         S.failures sink.new ≡ S.failures sink.old + sink_faults e) }
     ensures alone { IfErr result (λ e. e ≢ NoThread) }

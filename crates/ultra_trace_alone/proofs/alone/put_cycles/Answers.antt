@@ -9,7 +9,7 @@ loop-cycle-init g c = record {
   state = c.requires.start;
   takes = c.requires.takes;
   ready = c.requires.ready;
-  same = λ k. refl;
+  same = refl;
   writes = writes_nothing c.args.buffer.now;
   busy = busy_none c.args.blocks.now.config c.args.blocks.now.program;
 }
@@ -31,10 +31,10 @@ returns-then-is_over-clause-writes g c =
     let first = c.args.blocks.now in
     let n = c.loop-cycle.cycle in
     let inv = c.loop-cycle.invariant in
-    let lines = g.T.RunText.lines c.args.text.now first.config first.program in
+    let pieces = g.T.RunText.pieces c.args.text.now in
     let now = next_after first.config first.program n c.loop-cycle.blocks c.cycle.new.self inv.state c.cycle.ensures in
-    let written = cycle_written first.config first.program lines n c.cycle.new.self now (g.T.RunText.lines c.loop-cycle.text) (inv.same n) inv.writes c.put_lines.ensures.writes in
-    last_written first.config first.program n c.cycle.new.self now inv.busy (omega arith) lines (sym c.if-is_over.ensures) written
+    let written = cycle_written first.config first.program pieces n c.cycle.new.self now (g.T.RunText.pieces c.loop-cycle.text) inv.same inv.writes c.put_lines.ensures.writes in
+    last_written first.config first.program pieces.last n c.cycle.new.self now inv.busy (omega arith) (pieces.lines first.config first.program) (sym c.if-is_over.ensures) written
 
 pub returns-then-is_over-clause-end : goal.returns-then-is_over-clause-end
 returns-then-is_over-clause-end g c failed =
@@ -42,7 +42,7 @@ returns-then-is_over-clause-end g c failed =
     let n = c.loop-cycle.cycle in
     let inv = c.loop-cycle.invariant in
     let now = next_after first.config first.program n c.loop-cycle.blocks c.cycle.new.self inv.state c.cycle.ensures in
-    let count = last_count first.config first.program n c.cycle.new.self now inv.busy (omega arith) c.put_lines.new.buffer.failed (sym c.if-is_over.ensures) failed in
+    let count = last_count first.config first.program (g.T.RunText.pieces c.args.text.now).last n c.cycle.new.self now inv.busy (omega arith) c.put_lines.new.buffer.failed (sym c.if-is_over.ensures) failed in
     subst (λ k. IsAfter first.config first.program k c.cycle.new.self) count now
 
 pub returns-then-is_over-clause-ready : goal.returns-then-is_over-clause-ready
@@ -51,7 +51,7 @@ returns-then-is_over-clause-ready g c failed =
     let n = c.loop-cycle.cycle in
     let inv = c.loop-cycle.invariant in
     let now = next_after first.config first.program n c.loop-cycle.blocks c.cycle.new.self inv.state c.cycle.ensures in
-    let count = last_count first.config first.program n c.cycle.new.self now inv.busy (omega arith) c.put_lines.new.buffer.failed (sym c.if-is_over.ensures) failed in
+    let count = last_count first.config first.program (g.T.RunText.pieces c.args.text.now).last n c.cycle.new.self now inv.busy (omega arith) c.put_lines.new.buffer.failed (sym c.if-is_over.ensures) failed in
     subst (λ k. g.T.RunText.is_ready c.put_lines.new.self first.config first.program k) count
     (of_settings first.config first.program (n + 1) (λ s p. g.T.RunText.is_ready c.put_lines.new.self s p (n + 1)) c.cycle.new.self now c.put_lines.ensures.ready)
 
@@ -63,31 +63,32 @@ loop-cycle-preserved g c =
     let b = c.cycle.new.self in
     let old = c.loop-cycle.text in
     let new = c.put_lines.new.self in
-    let lines = g.T.RunText.lines c.args.text.now first.config first.program in
+    let pieces = g.T.RunText.pieces c.args.text.now in
     let now = next_after first.config first.program n c.loop-cycle.blocks b inv.state c.cycle.ensures in
     record {
       state = now;
       takes = rw c.cycle.ensures inv.takes;
       ready = of_settings first.config first.program (n + 1) (λ s p. g.T.RunText.is_ready new s p (n + 1)) b now c.put_lines.ensures.ready;
-      same = λ k. of_settings first.config first.program (n + 1) (λ s p. g.T.RunText.lines new s p k ≡ g.T.RunText.lines old s p k) b now (c.put_lines.ensures.same k) ∙ inv.same k;
-      writes = cycle_written first.config first.program lines n b now (g.T.RunText.lines old) (inv.same n) inv.writes c.put_lines.ensures.writes;
-      busy = still_busy first.config first.program n b now inv.busy (omega arith) c.put_lines.new.buffer.failed (sym c.if-is_over.ensures);
+      same = c.put_lines.ensures.same ∙ inv.same;
+      writes = cycle_written first.config first.program pieces n b now (g.T.RunText.pieces old) inv.same inv.writes c.put_lines.ensures.writes;
+      busy = still_busy first.config first.program pieces.last n b now inv.busy (omega arith) c.put_lines.new.buffer.failed (sym c.if-is_over.ensures);
     }
 
 pub returns-clause-writes : goal.returns-clause-writes
 returns-clause-writes g c =
     let first = c.args.blocks.now in
+    let pieces = g.T.RunText.pieces c.args.text.now in
     let inv = c.loop-cycle.invariant in
-    limit_written first.config first.program c.loop-cycle.cycle (omega arith) inv.busy (g.T.RunText.lines c.args.text.now first.config first.program) inv.writes
+    limit_written first.config first.program pieces.last c.loop-cycle.cycle (omega arith) inv.busy (pieces.lines first.config first.program) inv.writes
 
 pub returns-clause-end : goal.returns-clause-end
 returns-clause-end g c failed =
     let first = c.args.blocks.now in
     let inv = c.loop-cycle.invariant in
-    subst (λ k. IsAfter first.config first.program k c.loop-cycle.blocks) (limit_count first.config first.program c.loop-cycle.cycle (omega arith) inv.busy) inv.state
+    subst (λ k. IsAfter first.config first.program k c.loop-cycle.blocks) (limit_count first.config first.program (g.T.RunText.pieces c.args.text.now).last c.loop-cycle.cycle (omega arith) inv.busy) inv.state
 
 pub returns-clause-ready : goal.returns-clause-ready
 returns-clause-ready g c failed =
     let first = c.args.blocks.now in
     let inv = c.loop-cycle.invariant in
-    subst (λ k. g.T.RunText.is_ready c.loop-cycle.text first.config first.program k) (limit_count first.config first.program c.loop-cycle.cycle (omega arith) inv.busy) inv.ready
+    subst (λ k. g.T.RunText.is_ready c.loop-cycle.text first.config first.program k) (limit_count first.config first.program (g.T.RunText.pieces c.args.text.now).last c.loop-cycle.cycle (omega arith) inv.busy) inv.ready
