@@ -1,7 +1,5 @@
-use Rattle.std.proofs.Common.{◌≡◌, ap, subst, sym}
-use Rattle.std.specs.Prelude.{Option}
-use Rattle.ultra_io.specs.TextBuffer.{Writes}
-use Rattle.ultra_trace_alone.specs.RunText.{TextPieces, cycles_for, run_text}
+use Rattle.std.proofs.Common.{sym}
+use Rattle.ultra_trace_alone.specs.RunText.{cycles_for, run_text}
 use Rattle.ultra_io.proofs.Writing.{◌then◌, writes_failed}
 use Rattle.ultra_trace_alone.proofs.Count.{closing_written}
 use Rattle.ultra_trace_alone.proofs.alone.put_text.Goals as goal
