@@ -14,9 +14,7 @@ use ultra_crew::Gate;
 use ultra_isa::Program;
 use ultra_model::Config;
 use ultra_msg::Sink;
-use ultra_trace_alone::{
-    RunFault, RunText, TracePart, WholeTrace, new_blocks, run_alone, run_part_alone,
-};
+use ultra_trace_alone::{RunFault, RunText, TracePart, new_blocks, run_part_alone};
 
 /// Runs a program on a machine of these settings by n workers, 1 to 64, and writes the trace to the
 /// sink. The bytes are the same for every number of workers and every gate. After a fault the sink
@@ -27,9 +25,9 @@ use ultra_trace_alone::{
 /// answers that these lists explain.
 ///
 /// Unit `u` of the machine is in block `u` modulo the number of workers. With one worker the run is
-/// `run_alone`, and no gate is called. With several workers, each has its own thread, which is
-/// started once and kept for all cycles, and memory is asked for in each cycle. The call may wait.
-/// On every return path the threads that were started are joined.
+/// in the caller's thread, and no gate is called. With several workers, each has its own thread,
+/// which is started once and kept for all cycles, and memory is asked for in each cycle. The call
+/// may wait. On every return path the threads that were started are joined.
 ///
 /// `Write` says that the sink failed, and `NoMemory` that memory was refused. `NoThread` says that
 /// a thread could not be started or died before finishing; with one worker it is never answered.
@@ -59,11 +57,8 @@ pub fn run<R: Threads + Wait + Sync, G: Gate + Sync, S: Sink>(
 {
     // for the prover: the settings are in their ranges
     let _valid = config.initial();
-    if workers == 1 {
-        run_alone(alloc, config, program, sink)
-    } else {
-        run_together(rt, alloc, config, program, workers, gate, WholeTrace, sink)
-    }
+    let whole = TracePart::whole();
+    run_part(rt, alloc, config, program, whole, workers, gate, sink)
 }
 
 /// Runs a program on a machine of these settings by n workers, 1 to 64, and writes a part of the

@@ -229,7 +229,8 @@ fn put_text_together<J: ExpectedResults, R: Wait, T: RunText, S: Sink>(
 }
 
 /// Runs a machine from its start to the end of its trace by workers, or to the last cycle that the
-/// text needs, and writes the lines of these cycles. It ends early where the sink or a worker fails.
+/// text needs, and writes the lines of these cycles. It ends early where the sink or a worker
+/// fails.
 fn put_cycles_together<J: ExpectedResults, R: Wait, T: RunText, S: Sink>(
     buffer: &mut TextBuffer<'_, S>,
     rt: &R,

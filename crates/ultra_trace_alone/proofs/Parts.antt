@@ -1,11 +1,11 @@
--- the part with all lines of all cycles is the trace
+-- the whole trace is a part of itself
 use Rattle.std.proofs.Common.{ℕ, zero, suc, ◌≡◌, ◌+◌, ◌≤◌, ◌<◌, List, ◌++◌, Bool, refl, ap, subst, arith}
 use Rattle.std.specs.{List.{find, range_with_len}, Option.unwrap_or}
 use Rattle.std.proofs.lemmas.Bool.Decides.{nat_tests}
 use Rattle.ultra_isa.specs.declared.Instr.{Instr}
 use Rattle.ultra_model.specs.{Machine.{Settings, is_quiet}, Phases.after}
 use Rattle.ultra_model.specs.Trace.{all_cycles_text, by_number, cycle_count, cycle_text, first_line, trace}
-use Rattle.ultra_trace_alone.specs.{declared.part.{CycleLines.TheVariants.All, TracePart.TracePart}, Part.{part_lines, part_of, trace_end}}
+use Rattle.ultra_trace_alone.specs.Part.{part_lines, part_of, trace_end, whole_trace}
 use Rattle.ultra_trace_text.proofs.Numbered.{by_number_more}
 
 by_number_same : (n : ℕ) (f g : ℕ → List ℕ) → ((k : ℕ) → k < n → f k ≡ g k) → by_number n f ≡ by_number n g
@@ -25,15 +25,11 @@ module _ (c : Settings) (program : List Instr) where
   unfolding cycle_count
   count_within = found_within (λ n. is_quiet (after c program n)) 1 c.cycles c.cycles (omega arith)
 
-  module _ (last : ℕ) where
-    abbrev whole : TracePart
-    whole = record { from = 0; to = last; lines = All }
+  lines_of_cycle : (k : ℕ) → k ≤ 1000000 → part_lines whole_trace c program k ≡ cycle_text c (after c program (k + 1))
+  lines_of_cycle k small = grind (arith, nat_tests)
 
-    lines_of_cycle : (k : ℕ) → k ≤ last → part_lines whole c program k ≡ cycle_text c (after c program (k + 1))
-    lines_of_cycle k small = grind (arith, nat_tests)
-
-    pub whole_part : c.cycles ≤ last → part_of whole c program ≡ trace c program
-    unfolding part_of trace all_cycles_text
-    whole_part most =
-        let same = by_number_same (cycle_count c program) (part_lines whole c program) (λ k. cycle_text c (after c program (k + 1))) (λ k below. lines_of_cycle k (omega (arith, count_within))) in
-        ap (λ text. first_line ++ text ++ trace_end c program) same
+  pub whole_part : c.cycles ≤ 1000000 → part_of whole_trace c program ≡ trace c program
+  unfolding part_of trace all_cycles_text
+  whole_part most =
+      let same = by_number_same (cycle_count c program) (part_lines whole_trace c program) (λ k. cycle_text c (after c program (k + 1))) (λ k below. lines_of_cycle k (omega (arith, count_within))) in
+      ap (λ text. first_line ++ text ++ trace_end c program) same

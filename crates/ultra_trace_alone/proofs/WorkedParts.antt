@@ -27,6 +27,7 @@ end =
 
 one_cycle : part_of record { from = 5; to = 5; lines = All } one_stage add_one ≡
     line (codes "ultra trace 2")
+    ++ line (codes "part 5 5 all")
     ++ line (codes "cycle 5")
     ++ line (codes "act 0 1@0 faa 2 = 0 now 2")
     ++ line (codes "wait 0 0: 1@0 same 0 plus 1")
@@ -37,6 +38,7 @@ one_cycle = refl
 
 last_events : part_of record { from = 4; to = 1000000; lines = Events } one_stage add_one ≡
     line (codes "ultra trace 2")
+    ++ line (codes "part 4 1000000 events")
     ++ line (codes "cycle 4")
     ++ line (codes "cycle 5")
     ++ line (codes "act 0 1@0 faa 2 = 0 now 2")
@@ -48,6 +50,25 @@ last_events : part_of record { from = 4; to = 1000000; lines = Events } one_stag
 unfolding part_of last_state cycle_count cycle_text end_text registers_text after cycle start reply_phase memory_phase request_phase processor_phase arriving_reply arriving_request places digits
 last_events = refl
 
-no_cycle : part_of record { from = 0; to = 1000000; lines = None } one_stage add_one ≡ line (codes "ultra trace 2") ++ end
+no_cycle : part_of record { from = 0; to = 1000000; lines = None } one_stage add_one ≡ line (codes "ultra trace 2") ++ line (codes "part 0 1000000 end") ++ end
 unfolding part_of last_state cycle_count cycle_text end_text registers_text after cycle start reply_phase memory_phase request_phase processor_phase arriving_reply arriving_request places digits
 no_cycle = refl
+
+-- the run has no cycle that is so late
+beyond_the_end : part_of record { from = 900; to = 999999; lines = All } one_stage add_one ≡ line (codes "ultra trace 2") ++ line (codes "part 900 999999 all") ++ end
+unfolding part_of last_state cycle_count cycle_text end_text registers_text after cycle start reply_phase memory_phase request_phase processor_phase arriving_reply arriving_request places digits
+beyond_the_end = refl
+
+two_cycles : part_of record { from = 5; to = 6; lines = All } one_stage add_one ≡
+    line (codes "ultra trace 2")
+    ++ line (codes "part 5 6 all")
+    ++ line (codes "cycle 5")
+    ++ line (codes "act 0 1@0 faa 2 = 0 now 2")
+    ++ line (codes "wait 0 0: 1@0 same 0 plus 1")
+    ++ line (codes "out 0: 1@0 = 0")
+    ++ line (codes "cycle 6")
+    ++ line (codes "rep 0 0: 0@0 = 1")
+    ++ line (codes "rep 0 1: 1@0 = 0")
+    ++ end
+unfolding part_of last_state cycle_count cycle_text end_text registers_text after cycle start reply_phase memory_phase request_phase processor_phase arriving_reply arriving_request places digits
+two_cycles = refl

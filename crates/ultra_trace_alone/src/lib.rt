@@ -11,7 +11,7 @@ mod text;
 
 pub use alone::{is_over, most_cycles};
 pub use fault::RunFault;
-pub use part::{CycleLines, TracePart, WholeTrace};
+pub use part::{CycleLines, TracePart};
 pub use running::{run_alone, run_part_alone, write_run};
 pub use start::new_blocks;
 pub use text::RunText;

@@ -2,12 +2,13 @@
 
 ghost use Rattle.std.specs.Prelude.{◌≡◌, ⊤, ◌+◌, ◌<◌, ◌≤◌, ◌++◌, None, codes};
 ghost use Rattle.ultra_io.specs.TextBuffer.{Writes};
-ghost use Rattle.ultra_model.specs.{Phases.after, Trace.{cycle_text, first_line}};
-ghost use Rattle.ultra_trace_alone.specs.Part.{chosen_lines, part_lines, trace_end};
+ghost use Rattle.ultra_model.specs.Trace.{first_line};
+ghost use Rattle.ultra_trace_alone.specs.Part.{are_all, chosen_lines, is_whole, lines_word, part_line, part_lines, part_name, trace_end, whole_trace};
 
 use crate::text::RunText;
 use ultra_block::Blocks;
 use ultra_io::TextBuffer;
+use ultra_model::MOST_CYCLES;
 use ultra_msg::Sink;
 use ultra_trace_text::{put_cycle, put_cycle_events, put_end};
 
@@ -33,45 +34,52 @@ pub struct TracePart {
     pub lines: CycleLines,
 }
 
-/// The whole trace of a run.
-#[derive(Drop)]
-pub struct WholeTrace;
-
-impl RunText for WholeTrace {
-    ghost pieces = { λ _. record {
-      opening = first_line;
-      lines = λ c program k. cycle_text c (after c program (k + 1));
-      closing = trace_end;
-      last = None;
-    } };
-
-    ghost takes = { λ _. ⊤ };
-
-    ghost is_ready = { λ _ _ _ _. ⊤ };
-
-    fn last_cycle(&self) -> Option<u32> {
-        None
+impl TracePart {
+    /// The whole trace.
+    pub fn whole() -> TracePart
+        ensures { result ≡ whole_trace }
+    {
+        TracePart {
+            from: 0,
+            to: MOST_CYCLES,
+            lines: CycleLines::All,
+        }
     }
 
-    #[inline(always)]
-    fn put_opening<S: Sink>(&self, buffer: &mut TextBuffer<'_, S>) {
-        put_first_line(buffer);
+    /// Whether it has all lines of all cycles that a run can have.
+    fn is_whole(&self) -> bool
+        ensures { result ≡ is_whole self.now }
+    {
+        self.from == 0 && MOST_CYCLES <= self.to && self.lines.are_all()
+    }
+}
+
+impl CycleLines {
+    /// Whether these are all lines.
+    fn are_all(self) -> bool
+        ensures { result ≡ are_all self }
+    {
+        match self {
+            CycleLines::All => true,
+            CycleLines::Events | CycleLines::None => false,
+        }
     }
 
-    #[inline(always)]
-    fn put_lines<S: Sink>(&mut self, buffer: &mut TextBuffer<'_, S>, blocks: &Blocks, _cycle: u32) {
-        put_cycle(buffer, blocks);
-    }
-
-    #[inline(always)]
-    fn put_closing<S: Sink>(&self, buffer: &mut TextBuffer<'_, S>, blocks: &Blocks) {
-        put_end(buffer, blocks);
+    /// The word that says which lines these are.
+    fn word(self) -> &'static [u8]
+        ensures { result.now ≡ lines_word self }
+    {
+        match self {
+            CycleLines::All => b"all",
+            CycleLines::Events => b"events",
+            CycleLines::None => b"end",
+        }
     }
 }
 
 impl RunText for TracePart {
     ghost pieces = { λ part. record {
-      opening = first_line;
+      opening = first_line ++ part_line part;
       lines = part_lines part;
       closing = trace_end;
       last = None;
@@ -86,7 +94,8 @@ impl RunText for TracePart {
     }
 
     fn put_opening<S: Sink>(&self, buffer: &mut TextBuffer<'_, S>) {
-        put_first_line(buffer);
+        buffer.put(b"ultra trace 2\n");
+        put_part_line(buffer, self);
     }
 
     #[inline(always)]
@@ -101,11 +110,27 @@ impl RunText for TracePart {
     }
 }
 
-/// Writes the first line, which names the format.
-fn put_first_line<S: Sink>(buffer: &mut TextBuffer<'_, S>)
-    ensures { Writes S.taken S.failures first_line buffer.old buffer.new }
+/// Writes the line that says which part of a trace this is. The whole trace has none.
+fn put_part_line<S: Sink>(buffer: &mut TextBuffer<'_, S>, part: &TracePart)
+    ensures { Writes S.taken S.failures (part_line part.now) buffer.old buffer.new }
 {
-    buffer.put(b"ultra trace 2\n");
+    if !part.is_whole() {
+        put_name(buffer, part);
+    }
+}
+
+/// Writes which part of a trace this is, as `part 5 6 all`: its first and its last cycle, and which
+/// of their lines.
+fn put_name<S: Sink>(buffer: &mut TextBuffer<'_, S>, part: &TracePart)
+    ensures { Writes S.taken S.failures (part_name part.now) buffer.old buffer.new }
+{
+    buffer.put(b"part ");
+    buffer.put_number(part.from);
+    buffer.put(b" ");
+    buffer.put_number(part.to);
+    buffer.put(b" ");
+    buffer.put(part.lines.word());
+    buffer.put(b"\n");
 }
 
 /// Writes the lines of the last cycle that were chosen.

@@ -7,7 +7,7 @@ ghost use Rattle.ultra_trace_alone.specs.{declared.fault.RunFault.TheVariants.{N
 
 use crate::alone::write_text;
 use crate::fault::RunFault;
-use crate::part::{TracePart, WholeTrace};
+use crate::part::TracePart;
 use crate::text::RunText;
 use std::alloc::Global;
 use ultra_block::Blocks;
@@ -44,7 +44,7 @@ pub fn run_alone<S: Sink>(
 {
     // for the prover: the settings are in their ranges
     let _valid = config.initial();
-    write_run(alloc, config, program, WholeTrace, sink)
+    run_part_alone(alloc, config, program, TracePart::whole(), sink)
 }
 
 /// Runs a program on a machine of these settings in the caller's thread, and writes a part of the

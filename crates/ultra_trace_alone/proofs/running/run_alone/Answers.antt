@@ -1,17 +1,16 @@
-use Rattle.ultra_model.specs.Trace.{all_cycles_text, trace}
-use Rattle.ultra_trace_alone.specs.RunText.{run_text}
-use Rattle.ultra_trace_alone.proofs.Headlines.{headline_on_ok}
+use Rattle.ultra_trace_alone.proofs.{Headlines.headline_on_ok, Parts.whole_part}
 use Rattle.ultra_trace_alone.proofs.running.run_alone.Goals as goal
 
 pub returns-clause-headline : goal.returns-clause-headline
-unfolding run_text trace all_cycles_text
 returns-clause-headline g c =
-    headline_on_ok c.args.config.now c.args.program.now c.write_run.result (g.S.Sink.taken c.args.sink.now) (g.S.Sink.taken c.write_run.new.sink) c.initial-valid.ensures.valid.range c.write_run.ensures.ok
+    let valid = c.initial-valid.ensures.valid in
+    let written = rw (c.whole.ensures, whole_part c.args.config.now c.args.program.now valid.most_cycles) at c.run_part_alone.ensures.ok in
+    headline_on_ok c.args.config.now c.args.program.now c.run_part_alone.result (g.S.Sink.taken c.args.sink.now) (g.S.Sink.taken c.run_part_alone.new.sink) valid.range written
 
 pub returns-clause-ok : goal.returns-clause-ok
-unfolding run_text trace all_cycles_text
-returns-clause-ok g c = c.write_run.ensures.ok
+returns-clause-ok g c =
+    rw (c.whole.ensures, whole_part c.args.config.now c.args.program.now c.initial-valid.ensures.valid.most_cycles) at c.run_part_alone.ensures.ok
 
 pub returns-clause-err : goal.returns-clause-err
-unfolding run_text trace all_cycles_text
-returns-clause-err g c = c.write_run.ensures.err
+returns-clause-err g c =
+    rw (c.whole.ensures, whole_part c.args.config.now c.args.program.now c.initial-valid.ensures.valid.most_cycles) at c.run_part_alone.ensures.err
