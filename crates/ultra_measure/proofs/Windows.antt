@@ -1,15 +1,15 @@
 -- a run, window by window
-use Rattle.std.proofs.Common.{ℕ, zero, suc, ◌≡◌, ◌+◌, ◌*◌, ◌-◌, ◌≤◌, ◌<◌, Bool, true, List, ◌++◌, refl, sym, ◌∙◌, ap, subst, min, append-nil, arith}
-use Rattle.std.specs.{Prelude.{None, IsSome}, List.{find, range_with_len}, Option.unwrap_or, Fmt.digits}
-use Rattle.std.proofs.{Math.Nat.div-eq_of_lt-le, lemmas.Nat.le-div}
+use Rattle.std.proofs.Common.{ℕ, zero, suc, ◌≡◌, ◌+◌, ◌*◌, ◌-◌, ◌≤◌, ◌<◌, inl, inr, Bool, true, false, nat_lt, List, [], ◌++◌, refl, sym, ◌∙◌, ap, subst, min, append-nil, arith}
+use Rattle.std.specs.{Prelude.{Some, None, IsSome}, List.{find, range_with_len}, Option.unwrap_or, Fmt.digits}
+use Rattle.std.proofs.{Math.Nat.div-eq_of_lt-le, lemmas.{Bool.{cases_lt, cond-false, cond-true, Decides.nat_tests}, Nat.le-div}}
 use Rattle.ultra_isa.specs.declared.Instr.{Instr}
 use Rattle.ultra_io.specs.{declared.text_buffer.TextBuffer.TextBuffer, TextBuffer.Writes}
 use Rattle.ultra_io.proofs.Writing.{writes_failed}
 use Rattle.ultra_model.specs.{Machine.{Settings, is_quiet, start}, Phases.{after, cycle}, Trace.{by_number, cycle_count}}
 use Rattle.ultra_block.specs.State.{BlocksState}
 use Rattle.ultra_latency.specs.{declared.open.OpenTable.OpenTable, Open.IsOpenTable}
-use Rattle.ultra_trace_alone.specs.BlocksAfter.{IsAfter}
-use Rattle.ultra_trace_alone.proofs.Count.{after_none, busy_none, next_after, quiet_after, first_lines}
+use Rattle.ultra_trace_alone.specs.{BlocksAfter.IsAfter, RunText.{cycles_made, most_for}}
+use Rattle.ultra_trace_alone.proofs.Count.{after_none, next_after, quiet_after, first_lines}
 use Rattle.ultra_trace_text.proofs.Numbered.{writes_number}
 use Rattle.ultra_measure.specs.{declared.{window.Window.Window, columns.Form.{Form, TheVariants.{Lines, Values, JobValues}}, measuring.{Layout.Layout, WindowRun.WindowRun}}, Columns.{measures, ending}, Kept.{IsAfterCycle, IsKept}, Nets.IsNetOf, Rows.{row_text, ended_if}, Running.{AreAfter, IsOn, IsWindowRun}}
 use Rattle.ultra_measure.specs.Texts.{all_names, window_of, window_count, job_rows, measure_lines, measure_table, measure_text, measured, names_line}
@@ -81,37 +81,41 @@ module _ (c : Settings) (program : List Instr) where
     pub quiet_next : is_quiet (after c program (n + 1)) ≡ is_quiet b.machine
     quiet_next = quiet_after c program (n + 1) b state_next
 
-  -- ---- texts of windows
-  module _ (form : Form) (e : ℕ) (some : 1 ≤ e) where
+  -- ---- texts of windows, from a cycle to another
+  module _ (form : Form) (first last e : ℕ) (some : 1 ≤ e) where
     abbrev pub row : ℕ → List ℕ
-    row k = row_text form (window_of c program e k)
+    row k = row_text form (window_of c program first last e k)
 
-    -- the window from k * e on, as far as it or the run goes
-    pub row_is : (k from to : ℕ) → from ≡ k * e → to ≡ min (from + e) (cycle_count c program) → row_text form (measures c program from to) ≡ row k
+    abbrev pub made : ℕ
+    made = cycles_made c program last
+
+    -- the window that begins k times e cycles behind the first, as far as it goes
+    pub row_is : (k from to : ℕ) → from ≡ first + k * e → to ≡ min (from + e) made → row_text form (measures c program from to) ≡ row k
     row_is k from to start end =
-        let last : to ≡ min ((k + 1) * e) (cycle_count c program) = end ∙ ap (λ n. min n (cycle_count c program)) (omega (arith, start)) in
-        ap (λ n. row_text form (measures c program n to)) start ∙ ap (λ n. row_text form (measures c program (k * e) n)) last
+        let close : to ≡ min (first + (k + 1) * e) made = end ∙ ap (λ n. min n made) (omega (arith, start)) in
+        ap (λ n. row_text form (measures c program n to)) start ∙ ap (λ n. row_text form (measures c program (first + k * e) n)) close
 
-    -- a window that begins before the end of the run is one of all; the last reaches that end
-    count_past : (k : ℕ) → k * e < cycle_count c program → k + 1 ≤ window_count c program e
-    count_past k low = le-div (k + 1) (cycle_count c program + e - 1) e some (omega (arith, some, low))
+    -- a window that begins before the end is one of all
+    count_past : (k : ℕ) → first + k * e < made → k + 1 ≤ window_count c program first last e
+    count_past k low = le-div (k + 1) (made - first + e - 1) e some (omega (arith, some, low))
 
-    pub count_is : (k : ℕ) → k * e < cycle_count c program → cycle_count c program ≤ (k + 1) * e → window_count c program e ≡ k + 1
+    -- as many windows as reach the end are all
+    pub count_is : (k : ℕ) → k * e + 1 ≤ made - first + e → made ≤ first + k * e → window_count c program first last e ≡ k
     count_is k low high = div-eq_of_lt-le e (omega (arith, some, low)) (omega (arith, some, high))
 
-    module _ {S : Type 0} {taken : S → List ℕ} {failures : S → ℕ} {s t u : TextBuffer S} (k : ℕ) (low : k * e < cycle_count c program) (before : Writes taken failures (by_number k row) s t) (here : Writes taken failures (row k) t u) where
-      pub put_more : Writes taken failures (by_number (k + 1) row) s u
-      put_more = writes_number row k before here
-
-      -- it was the last
-      pub put_last : cycle_count c program ≤ (k + 1) * e → Writes taken failures (by_number (window_count c program e) row) s u
-      put_last high = subst (λ n. Writes taken failures (by_number n row) s u) (sym (count_is k low high)) put_more
+    module _ {S : Type 0} {taken : S → List ℕ} {failures : S → ℕ} {s t : TextBuffer S} where
+      pub put_all : (k : ℕ) → k * e + 1 ≤ made - first + e → made ≤ first + k * e → Writes taken failures (by_number k row) s t → Writes taken failures (by_number (window_count c program first last e) row) s t
+      put_all k low high written = subst (λ n. Writes taken failures (by_number n row) s t) (sym (count_is k low high)) written
 
       -- after a fault the windows that are missing don't matter
-      pub put_failed : u.failed ≡ true → Writes taken failures (by_number (window_count c program e) row) s u
-      put_failed failed =
-          let first = first_lines row (k + 1) (window_count c program e) (count_past k low) in
-          subst (λ text. Writes taken failures text s u) (sym first.1) (writes_failed first.0 failed put_more)
+      pub put_failed : (k : ℕ) → first + k * e < made → t.failed ≡ true → Writes taken failures (by_number (k + 1) row) s t → Writes taken failures (by_number (window_count c program first last e) row) s t
+      put_failed k low failed written =
+          let firsts = first_lines row (k + 1) (window_count c program first last e) (count_past k low) in
+          subst (λ text. Writes taken failures text s t) (sym firsts.1) (writes_failed firsts.0 failed written)
+
+    -- where the end isn't behind the first cycle, there is none
+    pub none_are : made ≤ first → by_number (window_count c program first last e) row ≡ []
+    none_are high = ap (λ n. by_number n row) (count_is 0 (omega (arith, some)) (omega (arith, high)))
 
   -- the names are the same for all runs
   pub names_are : (from to : ℕ) → all_names ≡ names_line (measures c program from to)
@@ -127,34 +131,43 @@ module _ (c : Settings) (program : List Instr) where
   unfolding cycle_count
   count_within = found_within (λ n. is_quiet (after c program n)) 1 c.cycles c.cycles (omega arith)
 
-  pub count_some : 1 ≤ c.cycles → 1 ≤ cycle_count c program
-  count_some some = let beyond = count_beyond c program 0 (busy_none c program) (omega (arith, some)) in omega (arith, beyond)
+  module _ (first last : ℕ) where
+    pub lines_are : (e : ℕ) → 1 ≤ e → c.cycles ≤ e → by_number (window_count c program first last e) (λ k. row_text Lines (window_of c program first last e k)) ≡ measure_text c program first last
+    unfolding measure_text
+    lines_are e some most = elim (cases_lt first (cycles_made c program last)) [
+      | inl low ↦
+          let within = count_within in
+          let one = count_is Lines first last e some 1 (omega (arith, low)) (omega (arith, within, most)) in
+          let close : min (first + (0 + 1) * e) (cycles_made c program last) ≡ cycles_made c program last = omega (arith, within, most) in
+          let start : first + 0 * e ≡ first = omega arith in
+          let text = measure_lines (measures c program first (cycles_made c program last)) in
+          let here : nat_lt first (cycles_made c program last) ≡ true = grind (arith, nat_tests) in
+          ap (λ n. by_number n (λ k. row_text Lines (window_of c program first last e k))) one
+          ∙ append-nil (row_text Lines (window_of c program first last e 0))
+          ∙ ap (λ n. measure_lines (measures c program n (min (first + (0 + 1) * e) (cycles_made c program last)))) start
+          ∙ ap (λ n. measure_lines (measures c program first n)) close
+          ∙ sym (cond-true (nat_lt first (cycles_made c program last)) text [] here)
+      | inr high ↦
+          let here : nat_lt first (cycles_made c program last) ≡ false = grind (arith, nat_tests) in
+          none_are Lines first last e some high
+          ∙ sym (cond-false (nat_lt first (cycles_made c program last)) (measure_lines (measures c program first (cycles_made c program last))) [] here)
+    ]
 
-  pub lines_are : (e : ℕ) → 1 ≤ c.cycles → c.cycles ≤ e → by_number (window_count c program e) (λ k. row_text Lines (window_of c program e k)) ≡ measure_text c program
-  unfolding measure_text
-  lines_are e some most =
-      let within = count_within in
-      let first = count_some some in
-      let one = count_is Lines e (omega (arith, some, most)) 0 (omega (arith, first)) (omega (arith, within, most)) in
-      let last : min ((0 + 1) * e) (cycle_count c program) ≡ cycle_count c program = omega (arith, within, most) in
-      let start : 0 * e ≡ 0 = omega arith in
-      ap (λ n. by_number n (λ k. row_text Lines (window_of c program e k))) one
-      ∙ append-nil (row_text Lines (window_of c program e 0))
-      ∙ ap (λ n. measure_lines (measures c program n (min ((0 + 1) * e) (cycle_count c program)))) start
-      ∙ ap (λ n. measure_lines (measures c program 0 n)) last
+    pub table_is : (e : ℕ) → names_line (window_of c program first last e 0) ++ by_number (window_count c program first last e) (λ k. row_text Values (window_of c program first last e k)) ≡ measure_table c program first last e
+    unfolding measure_table
+    table_is e = refl
 
-  pub table_is : (e : ℕ) → names_line (window_of c program e 0) ++ by_number (window_count c program e) (λ k. row_text Values (window_of c program e k)) ≡ measure_table c program e
-  unfolding measure_table
-  table_is e = refl
+    pub rows_are : (job e : ℕ) → by_number (window_count c program first last e) (λ k. row_text (JobValues job) (window_of c program first last e k)) ≡ job_rows c program first last job e
+    unfolding job_rows
+    rows_are job e = refl
 
-  pub rows_are : (job e : ℕ) → by_number (window_count c program e) (λ k. row_text (JobValues job) (window_of c program e k)) ≡ job_rows c program job e
-  unfolding job_rows
-  rows_are job e = refl
+  -- ---- a window was run, of those to a last cycle
+  module _ (form : Form) (first last e : ℕ) (some : 1 ≤ e) (k from : ℕ) (start : from ≡ min (first + k * e) (most_for c (Some last))) (more : from < most_for c (Some last)) (old b : BlocksState) (before table : OpenTable) (r : WindowRun) (on : IsOn c program from old before) (ran : IsWindowRun c program from (min e (most_for c (Some last) - from)) b table r) where
+    begins : from ≡ first + k * e
+    begins = omega (arith, start, more)
 
-  -- ---- a window was run, from k times its cycles on
-  module _ (form : Form) (e : ℕ) (some : 1 ≤ e) (k from : ℕ) (start : from ≡ k * e) (old b : BlocksState) (before table : OpenTable) (r : WindowRun) (on : IsOn c program from old before) (ran : IsWindowRun c program from e b table r) where
-    pub low_is : k * e < cycle_count c program
-    low_is = let beyond = count_beyond c program from on.busy on.within in omega (arith, start, beyond)
+    pub low_is : first + k * e < cycles_made c program last
+    low_is = let beyond = count_beyond c program from on.busy on.within in omega (arith, begins, more, beyond)
 
     pub kept_here : IsKept b.config b.program r.window.from r.to r.window
     kept_here = kept_in r.to b ran.now.state r.window.from r.to r.window (subst (λ f. IsKept c program f r.to r.window) (sym ran.begins) ran.kept)
@@ -162,25 +175,40 @@ module _ (c : Settings) (program : List Instr) where
     pub ended_here : ended_if r.ended ≡ ending b.config b.program r.window.from r.to
     ended_here = ran.ended ∙ ap (λ f. ending c program f r.to) (sym ran.begins) ∙ sym (ending_in r.to b ran.now.state r.window.from r.to)
 
-    text_is : row_text form (measures b.config b.program r.window.from r.to) ≡ row form e some k
+    ends : r.to ≡ min (from + e) (cycles_made c program last)
+    ends = let within = count_within in omega (arith, ran.to, more, within)
+
+    text_is : row_text form (measures b.config b.program r.window.from r.to) ≡ row form first last e some k
     text_is =
         ap (row_text form) (measures_in r.to b ran.now.state r.window.from r.to)
         ∙ ap (λ f. row_text form (measures c program f r.to)) ran.begins
-        ∙ row_is form e some k from r.to start ran.to
+        ∙ row_is form first last e some k from r.to begins ends
 
-    pub text_here : {S : Type 0} {taken : S → List ℕ} {failures : S → ℕ} {s t : TextBuffer S} → Writes taken failures (row_text form (measures b.config b.program r.window.from r.to)) s t → Writes taken failures (row form e some k) s t
-    text_here {taken = taken} {failures = failures} {s = s} {t = t} w = subst (λ text. Writes taken failures text s t) text_is w
+    pub text_more : {S : Type 0} {taken : S → List ℕ} {failures : S → ℕ} {s t u : TextBuffer S} → Writes taken failures (by_number k (row form first last e some)) s t → Writes taken failures (row_text form (measures b.config b.program r.window.from r.to)) t u → Writes taken failures (by_number (k + 1) (row form first last e some)) s u
+    text_more {taken = taken} {failures = failures} {t = t} {u = u} so_far here =
+        writes_number (row form first last e some) k so_far (subst (λ text. Writes taken failures text t u) text_is here)
+
+    -- one more window is reached
+    pub reached : (k + 1) * e + 1 ≤ cycles_made c program last - first + e
+    reached = omega (arith, low_is)
 
     -- the run ended with it
-    pub high_is : IsSome r.ended → cycle_count c program ≤ (k + 1) * e
-    high_is over = let all = ran.last over in omega (arith, start, ran.to, all)
+    pub high_is : IsSome r.ended → cycles_made c program last ≤ first + (k + 1) * e
+    high_is over = let all = ran.last over in omega (arith, begins, ran.to, all)
 
-    -- or the next one begins behind it
-    pub next_start : r.ended ≡ None → r.to ≡ (k + 1) * e
+    -- or the next one begins behind it, if there is one
+    pub next_start : r.ended ≡ None → r.to ≡ min (first + (k + 1) * e) (most_for c (Some last))
     next_start none =
         let goes = ran.on none in
         let beyond = count_beyond c program r.to goes.busy goes.within in
-        omega (arith, start, ran.to, beyond)
+        omega (arith, begins, more, ran.to, beyond)
+
+  -- no cycle is left that is asked for
+  pub none_left : (first last e k from : ℕ) → from ≡ min (first + k * e) (most_for c (Some last)) → most_for c (Some last) ≤ from → (old : BlocksState) (before : OpenTable) → IsOn c program from old before → cycles_made c program last ≤ first + k * e
+  none_left first last e k from start over old before on =
+      let beyond = count_beyond c program from on.busy on.within in
+      let within = on.within in
+      omega (arith, start, over, beyond, within)
 
 -- ---- at the start, in one block
 module _ (c : Settings) (program : List Instr) (b : BlocksState) (partition : List ℕ) (is : b ≡ record { config = c; program = program; partition = partition; count = 1; machine = start c }) where
@@ -198,5 +226,5 @@ module _ (c : Settings) (program : List Instr) (b : BlocksState) (partition : Li
     table = subst (λ s. IsOpenTable s b.program 0 table) (sym settings_are) (empty b.program);
   }
 
-  pub measured_is : (layout : Layout) → measured b.config b.program layout ≡ measured c program layout
-  measured_is layout = ap (λ s. measured s b.program layout) settings_are ∙ ap (λ p. measured c p layout) (ap (λ (x : BlocksState). x.program) is)
+  pub measured_is : (from to : ℕ) (layout : Layout) → measured b.config b.program from to layout ≡ measured c program from to layout
+  measured_is from to layout = ap (λ s. measured s b.program from to layout) settings_are ∙ ap (λ p. measured c p from to layout) (ap (λ (x : BlocksState). x.program) is)

@@ -1,8 +1,9 @@
 -- how the measures of a run are written
-use Rattle.std.specs.Prelude.{ℕ, ◌+◌, ◌-◌, ◌*◌, ◌/◌, ◌≤◌, List, [], ◌∷◌, ◌++◌, Bool, true, false, min, Option, Some, None, codes, decimal}
+use Rattle.std.specs.Prelude.{ℕ, ◌+◌, ◌-◌, ◌*◌, ◌/◌, ◌≤◌, List, [], ◌∷◌, ◌++◌, Bool, true, false, min, Option, Some, None, codes, decimal, nat_lt, if◌then◌else◌}
 use Rattle.std.specs.List.{flat_map, join_by, range_with_len}
 use Rattle.ultra_isa.specs.declared.Instr.{Instr}
-use Rattle.ultra_model.specs.{Machine.Settings, Text.newline, Trace.{by_number, cycle_count}}
+use Rattle.ultra_model.specs.{Machine.Settings, Text.newline, Trace.by_number}
+use Rattle.ultra_trace_alone.specs.RunText.{cycles_made}
 use Rattle.ultra_measure.specs.{declared.measuring.Layout.{Layout, TheVariants.{Lines, Table, JobRows}}, Columns.{Column, of_stage, measures}}
 
 -- a line for each measure that has a value
@@ -45,17 +46,23 @@ all_names =
     ++ codes ",running_sum,stalled_sum,open_sum,pni_sum,pni_most,inp_sum,out_sum"
     ++ flat_map stage_names (range_with_len 0 6) ++ newline
 
-module _ (c : Settings) (program : List Instr) where
-  -- the one window of a run, as lines
+-- the cycles of a run from one to another, both included, as far as the run has them
+module _ (c : Settings) (program : List Instr) (from to : ℕ) where
+  -- the cycle behind the last of them
+  abbrev pub windows_end : ℕ
+  windows_end = cycles_made c program to
+
+  -- the one window of all of them, as lines
   unfoldable pub measure_text : List ℕ
-  measure_text = measure_lines (measures c program 0 (cycle_count c program))
+  measure_text =
+      if nat_lt from windows_end then measure_lines (measures c program from windows_end) else []
 
   -- the windows of e cycles each; the last may be shorter
   abbrev pub window_of : ℕ → ℕ → List Column
-  window_of e k = measures c program (k * e) (min ((k + 1) * e) (cycle_count c program))
+  window_of e k = measures c program (from + k * e) (min (from + (k + 1) * e) windows_end)
 
   abbrev pub window_count : ℕ → ℕ
-  window_count e = (cycle_count c program + e - 1) / e
+  window_count e = (windows_end - from + e - 1) / e
 
   -- as a table
   unfoldable pub measure_table : ℕ → List ℕ
@@ -73,10 +80,11 @@ HasWindows Lines = Unit {0}
 HasWindows (Table e) = 1 ≤ e
 HasWindows (JobRows job e) = 1 ≤ e
 
-abbrev pub measured : Settings → List Instr → Layout → List ℕ
-measured c program Lines = measure_text c program
-measured c program (Table e) = measure_table c program e
-measured c program (JobRows job e) = job_rows c program job e
+-- of the cycles from one to another
+abbrev pub measured : Settings → List Instr → ℕ → ℕ → Layout → List ℕ
+measured c program from to Lines = measure_text c program from to
+measured c program from to (Table e) = measure_table c program from to e
+measured c program from to (JobRows job e) = job_rows c program from to job e
 
 -- whether a run was quiet at its end, where it ends: with the machine quiet, or with the last cycle
 -- that the settings allow

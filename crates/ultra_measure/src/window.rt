@@ -128,3 +128,15 @@ fn note_latencies(
     law_of_few_events(blocks.config());
     table.note_events(blocks.events_of_one(), cycle, latencies);
 }
+
+/// The open requests go on with a cycle that isn't measured.
+pub(crate) fn skip_latencies(table: &mut OpenTable, blocks: &Blocks, cycle: u32)
+    requires one { blocks.now.count ≡ 1 }
+    requires run { IsAfterCycle cycle blocks.now }
+    requires early { cycle ≤ 2 ^ 20 }
+    requires table { IsOpenTable blocks.now.config blocks.now.program cycle table.old }
+    ensures { IsOpenTable blocks.now.config blocks.now.program (cycle + 1) table.new }
+{
+    let mut latencies = Latencies::new();
+    note_latencies(&mut latencies, table, blocks, cycle, cycle);
+}
