@@ -23,7 +23,8 @@ pub enum CycleLines {
     None,
 }
 
-/// A part of a trace: its first line, lines of some cycles, and the lines at its end.
+/// A part of a trace: its first line, lines of some cycles, and the lines at its end. If it isn't
+/// the whole trace, its second line says which part it is.
 #[derive(Clone, Copy, PartialEq, Eq, Debug, Drop)]
 pub struct TracePart {
     /// The first cycle that is written.
