@@ -42,8 +42,8 @@ pub enum Layout {
 }
 
 /// Runs a program on a machine of these settings in the caller's thread. Writes the measures of the
-/// cycles from `from` to `to` to the sink; after a fault the sink has taken a prefix of them. Cycles
-/// behind `to` aren't made. What it holds doesn't grow with the number of cycles.
+/// cycles from `from` to `to` to the sink; after a fault the sink has taken a prefix of them.
+/// Cycles behind `to` aren't made. What it holds doesn't grow with the number of cycles.
 ///
 /// `Write` says that the sink failed, and `NoMemory` that memory was refused; it is asked for only
 /// before the first byte is written. `NoThread` is never answered.
