@@ -36,6 +36,10 @@ line_text m os = mnemonic_word m ++ (operands_text os ++ newline)
 abbrev pub instruction_line : Instr → List ℕ
 instruction_line i = line_text (mnemonic_of i) (operands_of i)
 
+-- the same without its end
+abbrev pub instruction_text : Instr → List ℕ
+instruction_text i = mnemonic_word (mnemonic_of i) ++ operands_text (operands_of i)
+
 abbrev pub label_line : ℕ → List ℕ
 label_line k = label_text k ++ (codes ":" ++ newline)
 

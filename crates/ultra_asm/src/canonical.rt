@@ -2,7 +2,7 @@
 
 ghost use Rattle.std.specs.Prelude.{◌≡◌, ℕ, ◌+◌, ◌++◌, ◌≤◌, slice_index_or, [], ◌∷◌, false, codes, decimal, OnOk, OnErr};
 ghost use Rattle.ultra_asm.specs.{Instruction.{mnemonic_of, operands_of}, ProgramText.IsProgramText};
-ghost use Rattle.ultra_asm.specs.Listing.{label_text, label_line, label_if, operand_list, operand_text, operands_text, line_text, instruction_line, jump_target, is_target, listing_text, AreWritable, IsListable};
+ghost use Rattle.ultra_asm.specs.Listing.{label_text, label_line, label_if, operand_list, operand_text, operands_text, instruction_text, instruction_line, jump_target, is_target, listing_text, AreWritable, IsListable};
 ghost use Rattle.ultra_msg.specs.Bytes.{TakesPrefix};
 ghost use Rattle.ultra_io.specs.TextBuffer.{Writes};
 ghost use Rattle.ultra_isa.specs.declared.TheConstants.{MOST_INSTRUCTIONS};
@@ -92,7 +92,7 @@ fn put_pc<S: Sink>(buffer: &mut TextBuffer<'_, S>, targets: &Targets, pc: usize,
         buffer.old buffer.new }
 {
     put_label_line(buffer, targets, pc);
-    put_instruction(buffer, instruction);
+    put_line(buffer, instruction);
 }
 
 /// Writes a line with the label of a program counter, if some jump goes there.
@@ -108,12 +108,21 @@ fn put_label_line<S: Sink>(buffer: &mut TextBuffer<'_, S>, targets: &Targets, pc
 }
 
 /// Writes the line of an instruction.
-fn put_instruction<S: Sink>(buffer: &mut TextBuffer<'_, S>, instruction: Instr)
+fn put_line<S: Sink>(buffer: &mut TextBuffer<'_, S>, instruction: Instr)
     ensures { Writes S.taken S.failures (instruction_line instruction) buffer.old buffer.new }
+{
+    put_instruction(buffer, instruction);
+    buffer.put(b"\n");
+}
+
+/// Writes an instruction as the canonical text of a program has it, without the end of its line.
+pub fn put_instruction<S: Sink>(buffer: &mut TextBuffer<'_, S>, instruction: Instr)
+    ensures { Writes S.taken S.failures (instruction_text instruction) buffer.old buffer.new }
 {
     let mnemonic = mnemonic_of(&instruction);
     let operands = operands_of(instruction);
-    put_line(buffer, mnemonic, operands.as_slice());
+    buffer.put(mnemonic.word());
+    put_operands(buffer, operands.as_slice());
 }
 
 /// The operands of an instruction, in the order in which they are written.
@@ -190,15 +199,6 @@ fn operands_of(instruction: Instr) -> Operands
         Instr::Load(a, b) | Instr::Store(a, b) => Two([Register(a), Register(b)]),
         Instr::Fence | Instr::Halt => None,
     }
-}
-
-/// Writes the line of an instruction with these operands.
-fn put_line<S: Sink>(buffer: &mut TextBuffer<'_, S>, mnemonic: Mnemonic, operands: &[Operand])
-    ensures { Writes S.taken S.failures (line_text mnemonic operands.now) buffer.old buffer.new }
-{
-    buffer.put(mnemonic.word());
-    put_operands(buffer, operands);
-    buffer.put(b"\n");
 }
 
 /// Writes operands, each behind a blank.

@@ -15,7 +15,7 @@ mod words;
 use crate::labels::Labels;
 use crate::reading::line_instruction;
 use crate::words::first_words;
-pub use canonical::listing;
+pub use canonical::{listing, put_instruction};
 use std::alloc::{AllocError, AllocFailed, Global};
 use thiserror::Error;
 pub use ultra_io::number_written;
