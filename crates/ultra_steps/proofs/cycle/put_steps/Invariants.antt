@@ -1,0 +1,14 @@
+use Rattle.ultra_model.specs.{Machine.element_at, Phases.after}
+use Rattle.std.proofs.Common.{◌+◌}
+use Rattle.ultra_steps.specs.{RegisterSettings.before_steps, StepLines.step_line_at}
+use Rattle.ultra_steps.proofs.Loops.{AreBetween, AreShown}
+use Rattle.ultra_steps.proofs.cycle.put_steps.Given as goal
+
+abbrev pub invariant-loop-pe : goal.invariant-loop-pe
+invariant-loop-pe g l =
+    let c = l.blocks.config in
+    let program = l.blocks.program in
+    record {
+      copies : AreBetween c (element_at (before_steps c program l.cycle)) (element_at (after c program (l.cycle + 1))) l.pe l.copies;
+      written : AreShown g.S.Sink.taken g.S.Sink.failures l.is_shown (step_line_at c program l.cycle) l.pe l.initial.buffer l.buffer;
+    }

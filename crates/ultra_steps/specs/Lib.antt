@@ -1,0 +1,5 @@
+pub mod RegisterSettings
+pub mod StepLines
+pub mod Copies
+pub mod StepText
+pub mod RegisterLaw
