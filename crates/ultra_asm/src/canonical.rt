@@ -4,7 +4,7 @@ ghost use Rattle.std.specs.Prelude.{◌≡◌, ℕ, ◌+◌, ◌++◌, ◌≤◌
 ghost use Rattle.ultra_asm.specs.{Instruction.{mnemonic_of, operands_of}, ProgramText.IsProgramText};
 ghost use Rattle.ultra_asm.specs.Listing.{label_text, label_line, label_if, operand_list, operand_text, operands_text, instruction_text, instruction_line, jump_target, is_target, listing_text, AreWritable, IsListable};
 ghost use Rattle.ultra_msg.specs.Bytes.{TakesPrefix};
-ghost use Rattle.ultra_io.specs.TextBuffer.{Writes};
+ghost use Rattle.ultra_io.specs.{TextBuffer.{GoesOn, Writes}, declared.filled_bytes.TheConstants.BUFFER_BYTES};
 ghost use Rattle.ultra_isa.specs.declared.TheConstants.{MOST_INSTRUCTIONS};
 
 use crate::instruction::{Mnemonic, Operand};
@@ -214,33 +214,49 @@ fn put_operands<S: Sink>(buffer: &mut TextBuffer<'_, S>, operands: &[Operand])
 fn put_next<S: Sink>(buffer: &mut TextBuffer<'_, S>, operand: Operand)
     ensures { Writes S.taken S.failures (codes " " ++ operand_text operand) buffer.old buffer.new }
 {
-    buffer.put(b" ");
-    put_operand(buffer, operand);
+    let at = buffer.begin();
+    let at = buffer.write(at, b" ");
+    let at = write_operand(buffer, at, operand);
+    buffer.end(at);
 }
 
-/// Writes an operand.
-fn put_operand<S: Sink>(buffer: &mut TextBuffer<'_, S>, operand: Operand)
-    ensures { Writes S.taken S.failures (operand_text operand) buffer.old buffer.new }
+/// Writes an operand: at most 11 bytes.
+#[inline(always)]
+fn write_operand<S: Sink>(buffer: &mut TextBuffer<'_, S>, at: usize, operand: Operand) -> usize
+    requires { at + 11 ≤ BUFFER_BYTES }
+    ensures goes_on { GoesOn S.taken S.failures
+        (operand_text operand) buffer.old at buffer.new result }
+    ensures few { result ≤ at + 11 }
 {
     match operand {
-        Operand::Register(register) => put_numbered(buffer, b"r", register.index()),
-        Operand::Number(number) => buffer.put_number(number),
-        Operand::Bits(shift) => buffer.put_number(shift.bits()),
-        Operand::Label(pc) => put_label(buffer, usize::from(pc)),
+        Operand::Register(register) => write_numbered(buffer, at, b"r", register.index() as u32),
+        Operand::Number(number) => buffer.write_number(at, number),
+        Operand::Bits(shift) => buffer.write_number(at, shift.bits()),
+        Operand::Label(pc) => write_numbered(buffer, at, b"L", u32::from(pc)),
     }
+}
+
+/// Writes a letter, and a number behind it in decimal digits: at most 11 bytes.
+#[inline(always)]
+fn write_numbered<S: Sink>(
+    buffer: &mut TextBuffer<'_, S>,
+    at: usize,
+    letter: &[u8; 1],
+    number: u32,
+) -> usize
+    requires { at + 11 ≤ BUFFER_BYTES }
+    ensures goes_on { GoesOn S.taken S.failures
+        (letter.now ++ decimal number) buffer.old at buffer.new result }
+    ensures few { result ≤ at + 11 }
+{
+    let at = buffer.write(at, letter);
+    buffer.write_number(at, number)
 }
 
 /// Writes the label of a program counter, as `L7`.
 fn put_label<S: Sink>(buffer: &mut TextBuffer<'_, S>, pc: usize)
     ensures { Writes S.taken S.failures (label_text pc) buffer.old buffer.new }
 {
-    put_numbered(buffer, b"L", pc);
-}
-
-/// Writes a letter, and a number behind it in decimal digits.
-fn put_numbered<S: Sink>(buffer: &mut TextBuffer<'_, S>, letter: &[u8], number: usize)
-    ensures { Writes S.taken S.failures (letter.now ++ decimal number) buffer.old buffer.new }
-{
-    buffer.put(letter);
-    buffer.put_count(number);
+    buffer.put(b"L");
+    buffer.put_count(pc);
 }
