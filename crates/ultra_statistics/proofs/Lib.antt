@@ -1,0 +1,9 @@
+pub mod Moving
+pub mod Ends
+pub mod Walking
+pub mod Windows
+pub mod Idle
+pub mod Standing
+pub mod Keeping
+pub mod Tables
+mod WorkedQueues

@@ -1,0 +1,6 @@
+use Rattle.std.proofs.Common.{◌≡◌, ap, ◌∙◌, arith}
+use Rattle.std.proofs.lemmas.Grind.{common_steps}
+use Rattle.ultra_statistics.proofs.counts.add_position.Goals as goal
+
+pub returns : goal.returns
+returns c = grind (arith, common_steps, c.seen_at-seen.ensures.held, c.seen_at-seen.ensures.room, c.seen_at-seen.ensures.leaves)

@@ -1,0 +1,6 @@
+pub mod Moves
+pub mod Runs
+pub mod Ports
+pub mod Kept
+pub mod Queues
+pub mod Rows
