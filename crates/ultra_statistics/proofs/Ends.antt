@@ -1,7 +1,7 @@
 -- where a run that is cut off ends
-use Rattle.std.proofs.Common.{ℕ, true, ◌≡◌, ◌+◌, ◌-◌, ◌≤◌, ◌<◌, ◌⊎◌, inl, inr, List, min, refl, sym, ◌∙◌, ap, subst, arith}
+use Rattle.std.proofs.Common.{ℕ, true, ◌≡◌, ◌+◌, ◌≤◌, ◌<◌, ◌⊎◌, inl, inr, List, min, subst, arith}
 use Rattle.ultra_isa.specs.declared.Instr.{Instr}
-use Rattle.ultra_model.specs.{Machine.{Settings, is_quiet}, Phases.after, Trace.cycle_count}
+use Rattle.ultra_model.specs.{Machine.{Settings, is_quiet}, Phases.after}
 use Rattle.ultra_trace_alone.proofs.Count.{IsBusy, count_quiet, count_limit}
 use Rattle.ultra_measure.proofs.Ends.{count_beyond}
 use Rattle.ultra_statistics.specs.Runs.{end_of}

@@ -1,6 +1,6 @@
 -- where a switch holds nothing of a kind, a state of the machine adds nothing to the counts
 use Rattle.std.proofs.Common.{ℕ, zero, suc, ◌≡◌, ◌+◌, ◌-◌, ◌*◌, ◌/◌, ◌^◌, ◌<◌, ◌≤◌, ◌⊎◌, inl, inr, Bool, true, false, max, List, [], length, refl, sym, ap, ◌∙◌, arith}
-use Rattle.std.specs.Prelude.{Option, Some, None, is_some, not, nat_le, nat_lt, ◌==◌, ◌&&◌, slice_get}
+use Rattle.std.specs.Prelude.{not, nat_le, slice_get}
 use Rattle.std.proofs.lemmas.Bool.Decides.{nat_tests}
 use Rattle.ultra_msg.specs.declared.ReplyMessage.{ReplyMessage}
 use Rattle.ultra_switch.specs.{declared.{QueueEntry.QueueEntry, WaitRecord.WaitRecord}, Queues.request_of}
@@ -8,8 +8,8 @@ use Rattle.ultra_model.specs.{Machine.{Settings, Machine, size, lane_at, replies
 use Rattle.ultra_topology.specs.{Numbers.switch_number, Set.has_unit}
 use Rattle.ultra_block.specs.{Held.{Held, TheVariants.{Reply, Request, Record}}, IsSetOf, Holding.holds}
 use Rattle.ultra_block.proofs.NothingHeld.{no_replies, no_requests, no_records}
-use Rattle.ultra_measure.specs.Held.{held_at, is_full}
-use Rattle.ultra_statistics.specs.{Kept.{if_so, with_state}, Ports.{leaving_at, lacks_room}, declared.counts.{QueueCounts.QueueCounts, Moment.Moment}}
+use Rattle.ultra_measure.specs.Held.{is_full}
+use Rattle.ultra_statistics.specs.{Kept.{if_so, with_state}, declared.counts.{QueueCounts.QueueCounts, Moment.Moment}}
 use Rattle.ultra_statistics.proofs.Moving.{no_reply_leaves, no_request_leaves}
 
 no_more : (b : Bool) (n : ℕ) → n ≡ 0 → if_so b n ≡ 0

@@ -1,5 +1,5 @@
 -- the counts of a table go on with a state, and have room for it
-use Rattle.std.proofs.Common.{ℕ, zero, suc, ◌≡◌, ◌+◌, ◌-◌, ◌*◌, ◌^◌, ◌<◌, ◌≤◌, ◌/◌, ◌%◌, Bool, true, false, max, List, length, get_or, replicate, subst, refl, sym, ap, ◌∙◌, arith}
+use Rattle.std.proofs.Common.{ℕ, zero, suc, ◌≡◌, ◌+◌, ◌-◌, ◌*◌, ◌^◌, ◌<◌, ◌≤◌, ◌/◌, ◌%◌, Bool, true, false, List, length, get_or, replicate, subst, refl, sym, ap, ◌∙◌, arith}
 use Rattle.std.specs.Prelude.{nat_lt, slice_index}
 use Rattle.std.proofs.lemmas.Bool.Decides.{nat_tests}
 use Rattle.std.proofs.lemmas.List.{length-replicate}
@@ -8,10 +8,10 @@ use Rattle.ultra_model.specs.{Machine.{Settings, Machine, size, start}, Phases.a
 use Rattle.ultra_model.proofs.Sound.{after_is_sound}
 use Rattle.ultra_block.specs.Held.{Held, TheVariants.{Reply, Request, Record}}
 use Rattle.ultra_latency.specs.Few.{HasFewEvents}
-use Rattle.ultra_measure.specs.{Held.{held_at, is_full}, Window.{sum_of, event_count}}
+use Rattle.ultra_measure.specs.{Held.{held_at}}
 use Rattle.ultra_measure.proofs.{Events.count_small, Keeping.zeros}
-use Rattle.ultra_statistics.specs.{Ports.{leaving_at, lacks_room, left_count, held_sum, held_most, full_count, combination_count, is_combination_at}, declared.{counts.{QueueCounts.QueueCounts, Moment.Moment}, queues.QueueTable.QueueTable}}
-use Rattle.ultra_statistics.specs.Kept.{no_counts, if_so, counts_of, with_state, window_counts, AreWithState, AreCounted, AreCombinations, HasRoom, HaveRoom, HasPlaces, CanTake, IsWithState, IsTable}
+use Rattle.ultra_statistics.specs.{Ports.{leaving_at, lacks_room, combination_count, is_combination_at}, declared.{counts.{QueueCounts.QueueCounts}, queues.QueueTable.QueueTable}}
+use Rattle.ultra_statistics.specs.Kept.{no_counts, if_so, with_state, window_counts, AreWithState, AreCounted, AreCombinations, HasRoom, HaveRoom, CanTake, IsWithState, IsTable}
 use Rattle.ultra_statistics.proofs.Windows.{no_sum, no_most, no_sum_before, sum_with, most_with, sum_before_with}
 
 -- ---- bounds

@@ -7,3 +7,4 @@ pub mod Standing
 pub mod Keeping
 pub mod Tables
 mod WorkedQueues
+pub mod Histograms

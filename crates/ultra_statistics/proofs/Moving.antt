@@ -1,5 +1,5 @@
 -- what leaves the queues of a machine in its next cycle, by its state before the cycle
-use Rattle.std.proofs.Common.{ℕ, zero, suc, [], ◌∷◌, not, ◌≡◌, ◌+◌, ◌-◌, ◌*◌, ◌/◌, ◌<◌, Bool, true, false, ◌||◌, refl, sym, ap, ◌∙◌, arith, ◌⊎◌, inl, inr}
+use Rattle.std.proofs.Common.{ℕ, zero, suc, [], ◌∷◌, not, ◌≡◌, ◌+◌, ◌-◌, ◌/◌, ◌<◌, Bool, true, false, ◌||◌, refl, sym, ap, ◌∙◌, arith, ◌⊎◌, inl, inr}
 use Rattle.std.specs.Prelude.{Option, Some, None, List, is_some, option_map, slice_get, length, nat_le, ◌==◌}
 use Rattle.std.proofs.lemmas.Bool.Decides.{nat_tests}
 use Rattle.ultra_msg.specs.declared.{Request.Request, ReplyMessage.ReplyMessage}
@@ -7,7 +7,7 @@ use Rattle.ultra_route.specs.Route.{shuffled, unshuffled}
 use Rattle.ultra_switch.specs.{declared.QueueEntry.QueueEntry, Queues.request_of}
 use Rattle.ultra_mem.specs.{declared.Placed.Placed, Serve.{ModuleState, serve}}
 use Rattle.ultra_model.specs.Machine.{Settings, Machine, size, last_stage, lane_at, replies_at, module_at, request_exit, is_nothing}
-use Rattle.ultra_model.specs.Phases.{has_reply_room, has_request_room, leaving_reply, leaving_request, arriving_reply, arriving_request, request_before, admitted, entering, without_reply, memory_phase, reply_phase}
+use Rattle.ultra_model.specs.Phases.{has_reply_room, has_request_room, leaving_reply, leaving_request, arriving_reply, arriving_request, request_before, admitted, without_reply, reply_phase}
 use Rattle.ultra_model.specs.Ranges.{AreInRange}
 use Rattle.ultra_model.proofs.AtPlaces.{lane-reply_phase, lane-memory_phase, memory_module-reply_phase, memory_module-memory_phase}
 use Rattle.ultra_model.proofs.ReplyBalance.{leaving_next, before_below, before_at_last}

@@ -1,10 +1,10 @@
 -- the table that is written from the counts is that of the definition
-use Rattle.std.proofs.Common.{ℕ, zero, suc, ◌≡◌, ◌+◌, ◌*◌, ◌^◌, ◌<◌, ◌≤◌, Bool, true, false, List, [], ◌∷◌, ◌++◌, refl, sym, ap, ◌∙◌, arith}
+use Rattle.std.proofs.Common.{ℕ, zero, suc, ◌≡◌, ◌+◌, ◌*◌, ◌^◌, ◌<◌, ◌≤◌, true, false, List, [], ◌∷◌, ◌++◌, refl, ap, ◌∙◌, arith}
 use Rattle.std.specs.Prelude.{nat_lt, slice_index}
 use Rattle.std.specs.List.{flat_map, range_with_len}
 use Rattle.ultra_isa.specs.declared.Instr.{Instr}
 use Rattle.ultra_model.specs.{Machine.{Settings, size}, Trace.by_number}
-use Rattle.ultra_block.specs.Held.{TheVariants.{Reply, Request, Record}}
+use Rattle.ultra_block.specs.Held.{TheVariants.{Request, Record}}
 use Rattle.ultra_statistics.specs.{Ports.combination_count, Queues.{numbers_row, queues_header, port_row, port_rows, queues_of}, Runs.end_of, Rows.{counts_row, table_text}, Kept.{IsTable, counts_of, window_counts}}
 use Rattle.ultra_statistics.specs.declared.{counts.QueueCounts.QueueCounts, queues.QueueTable.QueueTable}
 

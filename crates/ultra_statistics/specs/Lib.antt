@@ -4,3 +4,4 @@ pub mod Ports
 pub mod Kept
 pub mod Queues
 pub mod Rows
+pub mod Latencies

@@ -1,5 +1,5 @@
 -- numbers of one port of a switch, for the kinds of things that queues and wait buffers hold
-use Rattle.std.specs.Prelude.{ℕ, ◌+◌, ◌-◌, List, Bool, true, false, not, ◌&&◌, ◌==◌, nat_le, length}
+use Rattle.std.specs.Prelude.{ℕ, ◌+◌, ◌-◌, List, Bool, false, not, ◌&&◌, ◌==◌, nat_le, length}
 use Rattle.ultra_msg.specs.declared.Event.{Event, TheVariants.{Delivered, Served, Combined, Issued}}
 use Rattle.ultra_isa.specs.declared.Instr.{Instr}
 use Rattle.ultra_model.specs.{Machine.{Settings, Machine, replies_at}, Phases.{after, has_request_room}, Balance.{total, weight}}

@@ -1,10 +1,12 @@
-//! What the queues of a run held and what moved in them, by port.
+//! What the queues of a run held and what moved in them, by port; and how long its requests took.
 #![tactic(auto)]
 
 mod counts;
+mod latencies;
 mod moves;
 mod observer;
 mod queues;
 mod rows;
 
+pub use latencies::write_latencies;
 pub use queues::write_queues;

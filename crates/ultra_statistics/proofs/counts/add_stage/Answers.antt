@@ -1,7 +1,7 @@
-use Rattle.std.proofs.Common.{ℕ, ◌/◌, false, ◌≡◌, ◌+◌, ◌-◌, ◌*◌, ◌^◌, ◌<◌, ◌≤◌, List, length, ap, ◌∙◌, sym, subst, arith}
+use Rattle.std.proofs.Common.{ℕ, ◌/◌, false, ◌≡◌, ◌+◌, ◌-◌, ◌*◌, ◌^◌, ◌<◌, ◌≤◌, ap, ◌∙◌, sym, subst, arith}
 use Rattle.ultra_topology.specs.{Numbers.switch_number, Set.has_unit}
 use Rattle.ultra_holders.specs.Holders.{holders_left, numbers_in}
-use Rattle.ultra_statistics.specs.{Kept.{HasRoom, counts_of, with_state}, declared.counts.QueueCounts.QueueCounts}
+use Rattle.ultra_statistics.specs.{Kept.{HasRoom, with_state}, declared.counts.QueueCounts.QueueCounts}
 use Rattle.ultra_statistics.proofs.{Idle.idle, Standing.{none_walked, next_below, next_same, one_walked, all_walked}}
 use Rattle.ultra_statistics.proofs.counts.add_stage.Goals as goal
 

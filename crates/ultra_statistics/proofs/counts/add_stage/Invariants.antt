@@ -1,4 +1,4 @@
-use Rattle.std.proofs.Common.{ℕ, ◌+◌, ◌-◌, ◌^◌}
+use Rattle.std.proofs.Common.{◌+◌, ◌-◌, ◌^◌}
 use Rattle.ultra_topology.specs.{Numbers.switch_number, Set.has_unit}
 use Rattle.ultra_holders.specs.Holders.{holders_left}
 use Rattle.ultra_statistics.specs.Kept.{with_state}

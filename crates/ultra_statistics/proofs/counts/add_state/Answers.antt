@@ -1,6 +1,5 @@
 use Rattle.std.proofs.Common.{ℕ, ◌≡◌, ◌+◌, ◌-◌, ◌*◌, ◌^◌, ◌≤◌, ◌<◌, subst, ◌⊎◌, inl, inr, refl, arith, ◌∙◌, ap, sym}
-use Rattle.ultra_model.specs.Machine.{Settings, size}
-use Rattle.ultra_statistics.specs.{Kept.{HasRoom, counts_of, with_state}, declared.counts.QueueCounts.QueueCounts}
+use Rattle.ultra_statistics.specs.{Kept.{HasRoom, counts_of, with_state}}
 use Rattle.ultra_statistics.proofs.counts.add_state.Goals as goal
 
 pub loop-stage-init : goal.loop-stage-init

@@ -1,4 +1,4 @@
-use Rattle.std.proofs.Common.{◌≡◌, ◌+◌, ◌*◌, arith, List, subst, sym, ◌∙◌, ap}
+use Rattle.std.proofs.Common.{◌+◌, ◌*◌, arith, List, subst, sym, ◌∙◌, ap}
 use Rattle.ultra_statistics.specs.{Kept.{HasRoom, counts_of}, declared.counts.QueueCounts.QueueCounts}
 use Rattle.ultra_statistics.proofs.Standing.{set_beside}
 use Rattle.ultra_statistics.proofs.counts.add_switch.Goals as goal

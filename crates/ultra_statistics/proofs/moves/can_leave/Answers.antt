@@ -1,6 +1,6 @@
-use Rattle.std.proofs.Common.{◌≡◌, ◌+◌, ◌-◌, ◌^◌, ◌<◌, ap, sym, ◌∙◌, arith}
+use Rattle.std.proofs.Common.{◌≡◌, ◌+◌, ◌<◌, ap, sym, ◌∙◌, arith}
 use Rattle.ultra_route.specs.Route.{shuffled}
-use Rattle.ultra_model.specs.Machine.{Settings, last_stage, request_exit, size}
+use Rattle.ultra_model.specs.Machine.{last_stage, request_exit}
 use Rattle.ultra_statistics.proofs.Moving.{request_leaves_last, request_leaves_below}
 use Rattle.ultra_statistics.proofs.moves.can_leave.Goals as goal
 

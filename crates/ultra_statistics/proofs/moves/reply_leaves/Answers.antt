@@ -1,7 +1,7 @@
-use Rattle.std.proofs.Common.{◌≡◌, Bool, true, false, length, ap, sym, ◌∙◌}
+use Rattle.std.proofs.Common.{◌≡◌, false, length, ap, sym, ◌∙◌}
 use Rattle.std.specs.Prelude.{◌==◌, List}
 use Rattle.ultra_msg.specs.declared.ReplyMessage.{ReplyMessage}
-use Rattle.ultra_model.specs.Machine.{Settings, replies_at}
+use Rattle.ultra_model.specs.Machine.{replies_at}
 use Rattle.ultra_route.specs.Route.{unshuffled}
 use Rattle.ultra_statistics.proofs.Moving.{empty_if, no_reply_leaves, reply_leaves_first, reply_leaves_behind}
 use Rattle.ultra_statistics.proofs.moves.reply_leaves.Goals as goal

@@ -1,4 +1,4 @@
-use Rattle.std.proofs.Common.{◌≡◌, ap, sym, ◌∙◌}
+use Rattle.std.proofs.Common.{ap, sym, ◌∙◌}
 use Rattle.std.specs.Prelude.{slice_get}
 use Rattle.ultra_switch.specs.{Arrive.Lane, Queues.request_of}
 use Rattle.ultra_statistics.proofs.Moving.{no_request_leaves}

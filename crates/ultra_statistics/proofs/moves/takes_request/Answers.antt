@@ -1,8 +1,7 @@
-use Rattle.std.proofs.Common.{◌≡◌, ◌-◌, Bool, true, false, not, ap, sym, ◌∙◌}
+use Rattle.std.proofs.Common.{◌≡◌, ◌-◌, true, false, not, ap, sym, ◌∙◌}
 use Rattle.std.specs.Prelude.{is_some, option_map}
 use Rattle.ultra_mem.specs.{declared.Placed.Placed, Serve.ModuleState}
-use Rattle.ultra_model.specs.Machine.{Settings, module_at}
-use Rattle.ultra_model.specs.Phases.{has_reply_room}
+use Rattle.ultra_model.specs.Machine.{module_at}
 use Rattle.ultra_statistics.proofs.Moving.{free_without_request, free_without_reply, free_with_room}
 use Rattle.ultra_statistics.proofs.moves.takes_request.Goals as goal
 

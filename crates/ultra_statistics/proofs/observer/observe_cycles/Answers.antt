@@ -1,4 +1,4 @@
-use Rattle.std.proofs.Common.{ℕ, ◌≡◌, ◌+◌, ◌-◌, ◌<◌, ◌≤◌, sym, subst, ◌∙◌, arith}
+use Rattle.std.proofs.Common.{◌≡◌, ◌+◌, ◌-◌, sym, subst, ◌∙◌, arith}
 use Rattle.ultra_trace_alone.proofs.Count.{next_after, own_after, of_settings, done_after, quiet_after, busy_more}
 use Rattle.ultra_statistics.proofs.Ends.{end_quiet, end_limit}
 use Rattle.ultra_statistics.proofs.observer.observe_cycles.Goals as goal

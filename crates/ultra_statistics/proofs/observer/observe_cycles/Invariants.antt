@@ -1,4 +1,4 @@
-use Rattle.std.proofs.Common.{ℕ, ◌≡◌, ◌-◌}
+use Rattle.std.proofs.Common.{◌≡◌, ◌-◌}
 use Rattle.ultra_trace_alone.specs.BlocksAfter.{IsAfter}
 use Rattle.ultra_trace_alone.proofs.Count.{IsBusy}
 use Rattle.ultra_statistics.proofs.observer.observe_cycles.Given as goal

@@ -1,5 +1,4 @@
-use Rattle.std.proofs.Common.{◌+◌, ◌*◌, ◌<◌, ◌∙◌, arith}
-use Rattle.std.proofs.lemmas.Grind.{common_steps}
+use Rattle.std.proofs.Common.{arith}
 use Rattle.ultra_measure.proofs.Events.{goes_on}
 use Rattle.ultra_statistics.specs.Ports.{is_combination_at}
 use Rattle.ultra_statistics.proofs.queues.add_combinations.Goals as goal

@@ -1,4 +1,4 @@
-use Rattle.std.proofs.Common.{ℕ, ◌^◌}
+use Rattle.std.proofs.Common.{◌^◌}
 use Rattle.ultra_io.proofs.Writing.{writes_nothing}
 use Rattle.ultra_model.specs.Trace.{by_number}
 use Rattle.ultra_trace_text.proofs.Numbered.{writes_number}

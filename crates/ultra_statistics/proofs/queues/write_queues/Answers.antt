@@ -1,7 +1,7 @@
-use Rattle.std.proofs.Common.{ℕ, ◌≡◌, ◌≤◌, ◌^◌, ◌∙◌, ap, sym, subst, List, arith}
+use Rattle.std.proofs.Common.{◌≤◌, ◌^◌, ◌∙◌, ap, subst, arith}
 use Rattle.std.specs.Prelude.{Result, Ok, Err, OnErr}
-use Rattle.ultra_model.specs.Machine.{Settings, size}
-use Rattle.ultra_statistics.specs.{Kept.IsTable, Queues.queues_of, Rows.table_text}
+use Rattle.ultra_model.specs.Machine.{size}
+use Rattle.ultra_statistics.specs.{Kept.IsTable}
 use Rattle.ultra_statistics.proofs.Tables.{table_is}
 use Rattle.ultra_statistics.proofs.queues.write_queues.Goals as goal
 

@@ -1,9 +1,8 @@
-use Rattle.std.proofs.Common.{ℕ, ◌≡◌, ◌+◌, ◌-◌, ◌*◌, ◌^◌, ◌<◌, ◌≤◌, length, List, refl, ap, sym, ◌∙◌, nat_lt, subst, arith}
+use Rattle.std.proofs.Common.{ℕ, ◌≡◌, ◌+◌, ◌-◌, ◌*◌, ◌≤◌, length, refl, ap, sym, ◌∙◌, nat_lt, subst, arith}
 use Rattle.std.specs.{Prelude.slice_index, Vec.with_items}
 use Rattle.std.proofs.lemmas.List.{with_items_is}
-use Rattle.ultra_model.specs.{Machine.{Settings, Machine}, Phases.after, Balance.weight}
+use Rattle.ultra_model.specs.{Machine.{Machine}, Phases.after, Balance.weight}
 use Rattle.ultra_latency.specs.Few.{HasFewEvents}
-use Rattle.ultra_msg.specs.declared.Event.{Event}
 use Rattle.ultra_statistics.specs.{Kept.IsTable, declared.queues.QueueTable.QueueTable}
 use Rattle.ultra_statistics.proofs.Keeping.{can_take, combinations_fit, few_events, next_table, same_table}
 use Rattle.ultra_statistics.proofs.queues.QueueTableObserver.note.Goals as goal

@@ -1,0 +1,35 @@
+-- how long the requests of a run took, as a histogram; this project's profile
+use Rattle.std.specs.Prelude.{◌≡◌, ℕ, List, [], ◌∷◌, ◌++◌, zero, suc, ◌==◌, slice_index, codes}
+use Rattle.ultra_isa.specs.declared.Instr.{Instr}
+use Rattle.ultra_model.specs.{Machine.Settings, Balance.count, Text.newline, Trace.by_number}
+use Rattle.ultra_latency.specs.{Latency.latencies, Open.IsOpenTable}
+use Rattle.ultra_statistics.specs.{Queues.numbers_row, Runs.end_of, declared.latencies.LatencyCounts.LatencyCounts}
+
+-- how often a latency occurred
+abbrev pub answered_in : List ℕ → ℕ → ℕ
+answered_in xs l = count (λ x. x == l) xs
+
+abbrev pub answered_row : ℕ → ℕ → List ℕ
+answered_row l zero = []
+answered_row l (suc n) = numbers_row l (suc n ∷ [])
+
+abbrev pub latencies_header : List ℕ
+latencies_header = codes "latency,answered" ++ newline
+
+-- a row for each latency that occurred; each is below the number of cycles
+unfoldable pub latencies_of_run : ℕ → ℕ → Settings → List Instr → List ℕ
+latencies_of_run from to c program =
+    let end = end_of to c program in
+    latencies_header
+    ++ by_number end (λ l. answered_row l (answered_in (latencies c program from end) l))
+
+-- ---- as they are counted while the run goes on
+abbrev pub histogram_text : List ℕ → ℕ → List ℕ
+histogram_text counts end =
+    latencies_header ++ by_number end (λ l. answered_row l (slice_index counts l))
+
+pub record IsHistogram (c : Settings) (program : List Instr) (first ended : ℕ)
+    (t : LatencyCounts) : Type 0 where
+  pub table : IsOpenTable c program ended t.table
+  pub counts : (l : ℕ)
+      → slice_index t.counts.items l ≡ answered_in (latencies c program first ended) l
