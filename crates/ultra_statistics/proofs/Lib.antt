@@ -8,3 +8,5 @@ pub mod Keeping
 pub mod Tables
 mod WorkedQueues
 pub mod Histograms
+pub mod PortLaws
+mod WorkedLatencies

@@ -5,3 +5,4 @@ pub mod Kept
 pub mod Queues
 pub mod Rows
 pub mod Latencies
+pub mod PortLaw

@@ -3,10 +3,12 @@
 
 mod counts;
 mod latencies;
+mod law;
 mod moves;
 mod observer;
 mod queues;
 mod rows;
 
 pub use latencies::write_latencies;
+pub use law::law_of_ports;
 pub use queues::write_queues;

@@ -1,0 +1,11 @@
+//! A law of the table.
+
+ghost use Rattle.ultra_statistics.specs.PortLaw.{PortLaw};
+
+/// The rows of the ports of a stage give the measures of the stage, as this function's contract.
+/// Their sums add up to those measures, the greatest of what each held at most is the measure, and
+/// the full wait buffers add up. It holds for all settings, every program and every window. The
+/// function itself does nothing.
+pub fn law_of_ports()
+    ensures ports { PortLaw }
+{}
