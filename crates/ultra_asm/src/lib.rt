@@ -12,14 +12,15 @@ mod labels;
 mod reading;
 mod words;
 
-use crate::labels::Labels;
 use crate::reading::line_instruction;
 use crate::words::first_words;
 pub use canonical::{listing, put_instruction};
+pub use labels::Labels;
 use std::alloc::{AllocError, AllocFailed, Global};
 use thiserror::Error;
 pub use ultra_io::number_written;
 use ultra_isa::{MOST_INSTRUCTIONS, Program};
+pub use words::register_named;
 
 /// What is wrong in a program's text.
 #[derive(Clone, Copy, PartialEq, Eq, Debug, Drop, Error)]
