@@ -92,12 +92,15 @@ module _ (s : Scope) where
       if nat_lt p.0 s.elements then Some (Register p.0 r, (word_at rest).1) else None)))
 
   unfoldable pub label_at : Reader ℕ
-  label_at text = read_on (near_pc_of (text_words s.text) (word_at text).0) (λ k. Some (k, (word_at text).1))
+  label_at text =
+      read_on (near_pc_of (text_words s.text) (word_at text).0)
+      (λ k. Some (k, (word_at text).1))
 
   -- the processing elements at these places
   unfoldable pub between_labels : ℕ → ℕ → Reader Value
   between_labels from to rest =
-      if has_reference s.program from (to - from) then Some (Elements (group.At from to), rest) else None
+      if has_reference s.program from (to - from)
+      then Some (Elements (group.At from to), rest) else None
 
   -- `L` or `L..K`
   unfoldable pub labels_at : Reader Value

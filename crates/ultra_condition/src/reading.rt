@@ -20,7 +20,8 @@ use std::alloc::Global;
 /// Else the fault says that it isn't one, or that memory was refused.
 pub fn read_condition(alloc: Global, scope: &Scope, text: &str) -> Result<Condition, ConditionFault>
     ensures read { IfOk result (λ c. condition_read scope.now text.now ≡ Some (condition_of c)) }
-    ensures within { IfOk result (λ c. AreWithin scope.now.cells scope.now.elements (condition_of c)) }
+    ensures within { IfOk result (λ c.
+        AreWithin scope.now.cells scope.now.elements (condition_of c)) }
     ensures refused { IfErr result (λ f. f ≡ ConditionFault.NotOne →
         condition_read scope.now text.now ≡ None) }
 {
@@ -74,8 +75,8 @@ fn sign_at(text: &[u8]) -> Option<(Sign, &[u8])>
     Some((Sign::Above, rest))
 }
 
-/// Whether the sum of these terms fits 64 bits, with the greatest word in each cell and register and
-/// with this many processing elements.
+/// Whether the sum of these terms fits 64 bits, with the greatest word in each cell and register
+/// and with this many processing elements.
 fn fits(elements: u32, terms: &[Term]) -> bool
     ensures { result ≡ nat_lt (most_sum elements terms.now) (2 ^ 64) }
 {
@@ -148,8 +149,10 @@ fn comparison_at<'t>(
     scope: &Scope,
     text: &'t [u8],
 ) -> Result<(Condition, &'t [u8]), ConditionFault>
-    ensures read { IfOk result (λ r. comparison_at scope.now text.now ≡ Some (condition_of r.0, r.1.now)) }
-    ensures within { IfOk result (λ r. AreWithin scope.now.cells scope.now.elements (condition_of r.0)) }
+    ensures read { IfOk result (λ r.
+        comparison_at scope.now text.now ≡ Some (condition_of r.0, r.1.now)) }
+    ensures within { IfOk result (λ r.
+        AreWithin scope.now.cells scope.now.elements (condition_of r.0)) }
     ensures shorter { IfOk result (λ r. length r.1.now ≤ length text.now) }
     ensures refused { IfErr result (λ f. f ≡ ConditionFault.NotOne →
         comparison_at scope.now text.now ≡ None) }
@@ -172,7 +175,8 @@ fn negation_at<'t>(
 ) -> Result<(Condition, &'t [u8]), ConditionFault>
     ensures read { IfOk result (λ r.
         negation_at scope.now depth text.now ≡ Some (condition_of r.0, r.1.now)) }
-    ensures within { IfOk result (λ r. AreWithin scope.now.cells scope.now.elements (condition_of r.0)) }
+    ensures within { IfOk result (λ r.
+        AreWithin scope.now.cells scope.now.elements (condition_of r.0)) }
     ensures shorter { IfOk result (λ r. length r.1.now ≤ length text.now) }
     ensures refused { IfErr result (λ f. f ≡ ConditionFault.NotOne →
         negation_at scope.now depth text.now ≡ None) }
@@ -201,8 +205,10 @@ fn conjunction_at<'t>(
     text: &'t [u8],
 ) -> Result<(Condition, &'t [u8]), ConditionFault>
     ensures read { IfOk result (λ r.
-        conjunction_at scope.now (negation_at scope.now depth) text.now ≡ Some (condition_of r.0, r.1.now)) }
-    ensures within { IfOk result (λ r. AreWithin scope.now.cells scope.now.elements (condition_of r.0)) }
+        conjunction_at scope.now (negation_at scope.now depth) text.now ≡
+        Some (condition_of r.0, r.1.now)) }
+    ensures within { IfOk result (λ r.
+        AreWithin scope.now.cells scope.now.elements (condition_of r.0)) }
     ensures shorter { IfOk result (λ r. length r.1.now ≤ length text.now) }
     ensures refused { IfErr result (λ f. f ≡ ConditionFault.NotOne →
         conjunction_at scope.now (negation_at scope.now depth) text.now ≡ None) }
@@ -226,7 +232,8 @@ fn disjunction_at<'t>(
 ) -> Result<(Condition, &'t [u8]), ConditionFault>
     ensures read { IfOk result (λ r.
         condition_at scope.now depth text.now ≡ Some (condition_of r.0, r.1.now)) }
-    ensures within { IfOk result (λ r. AreWithin scope.now.cells scope.now.elements (condition_of r.0)) }
+    ensures within { IfOk result (λ r.
+        AreWithin scope.now.cells scope.now.elements (condition_of r.0)) }
     ensures shorter { IfOk result (λ r. length r.1.now ≤ length text.now) }
     ensures refused { IfErr result (λ f. f ≡ ConditionFault.NotOne →
         condition_at scope.now depth text.now ≡ None) }
