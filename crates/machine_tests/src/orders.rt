@@ -91,7 +91,12 @@ fn log_has(rt: &impl Abort, log: &Log, issues: &[LoggedIssue], answers: &[Logged
 fn log_of_a_pair(rt: HostRuntime) -> Result<(), Fail> {
     let config = config(rt.alloc(), 1)?;
     let found = log(rt.alloc(), &config, &add_one(rt.alloc())?, 8)?;
-    log_has(&rt, &found, &[issue(0), issue(1)], &[answer(0, 1), answer(1, 0)]);
+    log_has(
+        &rt,
+        &found,
+        &[issue(0), issue(1)],
+        &[answer(0, 1), answer(1, 0)],
+    );
     check(rt.alloc(), &[], &found, &[(0, 2)], &in_order())?;
     Ok(())
 }

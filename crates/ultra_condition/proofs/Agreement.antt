@@ -4,7 +4,7 @@ use Rattle.std.specs.List.{count_by, list_any, list_all}
 use Rattle.std.proofs.lemmas.{Bool.{true≢false, and_from, and_parts, eq-eqb}, List.Sums.sum_by-cons}
 use Rattle.ultra_isa.specs.Step.{Core, fresh_core}
 use Rattle.ultra_para.specs.Para.{Para, core_at}
-use Rattle.ultra_condition.specs.{declared.value.{Group.Group, Term.Term, Value.Value}, Condition.{Condition, compare, negate, both, either}, Meaning.{is_running, is_halted, is_faulted, is_in, measure_of, words_from, value_in, term_in, sum_in, compares, holds}, Naming.{value_names, sum_names, names_register, AgreeOn, SumAgreementLaw, AgreementLaw, value_is_of_cells, sum_is_of_cells, is_of_cells, CellsLaw}}
+use Rattle.ultra_condition.specs.{declared.value.{Group.Group, Term.Term, Value.Value}, Condition.{Condition, compare, negate, both, either}, Meaning.{is_running, is_halted, is_faulted, is_counted, measure_of, words_from, value_in, term_in, sum_in, compares, holds}, Naming.{value_names, sum_names, names_register, AgreeOn, SumAgreementLaw, AgreementLaw, value_is_of_cells, sum_is_of_cells, is_of_cells, CellsLaw}}
 use Rattle.ultra_condition.specs.declared.value.Group.TheVariants as group
 use Rattle.ultra_condition.specs.declared.value.Value.TheVariants.{One, Cells, Register, Elements}
 
@@ -17,18 +17,18 @@ or_right true b h = refl
 or_right false b h = h
 
 -- ---- counts
-is_in_same : (g : Group) (x y : Core) → x.pc ≡ y.pc → x.activity ≡ y.activity → is_in g x ≡ is_in g y
+is_in_same : (g : Group) (x y : Core) → x.pc ≡ y.pc → x.activity ≡ y.activity → is_counted g x ≡ is_counted g y
 is_in_same group.Running x y hp ha = ap is_running ha
 is_in_same group.Halted x y hp ha = ap is_halted ha
 is_in_same group.Faulted x y hp ha = ap is_faulted ha
 is_in_same (group.At from to) x y hp ha = λ i. is_running (ha i) && (nat_le from (hp i) && nat_lt (hp i) to)
 
-count_same : (g : Group) (xs ys : List Core) → length xs ≡ length ys → ((p : ℕ) → (get_or xs p fresh_core).pc ≡ (get_or ys p fresh_core).pc) → ((p : ℕ) → (get_or xs p fresh_core).activity ≡ (get_or ys p fresh_core).activity) → count_by (is_in g) xs ≡ count_by (is_in g) ys
+count_same : (g : Group) (xs ys : List Core) → length xs ≡ length ys → ((p : ℕ) → (get_or xs p fresh_core).pc ≡ (get_or ys p fresh_core).pc) → ((p : ℕ) → (get_or xs p fresh_core).activity ≡ (get_or ys p fresh_core).activity) → count_by (is_counted g) xs ≡ count_by (is_counted g) ys
 count_same g [] [] n hp ha = refl
 count_same g [] (y ∷ ys) n hp ha = absurd (omega (arith, n))
 count_same g (x ∷ xs) [] n hp ha = absurd (omega (arith, n))
 count_same g (x ∷ xs) (y ∷ ys) n hp ha =
-    let f = λ (c : Core). cond (is_in g c) 1 0 in
+    let f = λ (c : Core). cond (is_counted g c) 1 0 in
     let head : f x ≡ f y = ap (λ b. cond b 1 0) (is_in_same g x y (hp 0) (ha 0)) in
     let tail = count_same g xs ys (omega (arith, n)) (λ p. hp (suc p)) (λ p. ha (suc p)) in
     sum_by-cons f x xs ∙ (λ i. head i + tail i) ∙ sym (sum_by-cons f y ys)

@@ -41,12 +41,12 @@ module _ (cells elements : ℕ) where
   IsThere (Elements g) = Unit {0}
 
   -- and the sum fits 64 bits
-  pub record IsWithin (ts : List Term) : Type 0 where
+  pub record IsWithinLimits (ts : List Term) : Type 0 where
     pub there : All (λ (t : Term). IsThere t.value) ts
     pub small : most_sum elements ts < 2 ^ 64
 
-  abbrev pub AreWithin : Condition → Type 0
-  AreWithin (compare a s b) = IsWithin a × IsWithin b
-  AreWithin (negate c) = AreWithin c
-  AreWithin (both c d) = AreWithin c × AreWithin d
-  AreWithin (either c d) = AreWithin c × AreWithin d
+  abbrev pub AreWithinLimits : Condition → Type 0
+  AreWithinLimits (compare a s b) = IsWithinLimits a × IsWithinLimits b
+  AreWithinLimits (negate c) = AreWithinLimits c
+  AreWithinLimits (both c d) = AreWithinLimits c × AreWithinLimits d
+  AreWithinLimits (either c d) = AreWithinLimits c × AreWithinLimits d

@@ -28,11 +28,11 @@ is_faulted (Faulted f) = true
 
 -- whether a processing element is counted: one that runs, has halted or has faulted, or runs and is
 -- at one of the places from the first on and before the second
-abbrev pub is_in : Group → Core → Bool
-is_in group.Running c = is_running c.activity
-is_in group.Halted c = is_halted c.activity
-is_in group.Faulted c = is_faulted c.activity
-is_in (group.At from to) c = is_running c.activity && (nat_le from c.pc && nat_lt c.pc to)
+abbrev pub is_counted : Group → Core → Bool
+is_counted group.Running c = is_running c.activity
+is_counted group.Halted c = is_halted c.activity
+is_counted group.Faulted c = is_faulted c.activity
+is_counted (group.At from to) c = is_running c.activity && (nat_le from c.pc && nat_lt c.pc to)
 
 -- the least and the greatest of some words
 abbrev pub least : List ℕ → ℕ
@@ -57,7 +57,7 @@ module _ (v : Para) where
   value_in One = 1
   value_in (Cells m a b) = measure_of m (words_from v.cells a b)
   value_in (Register p r) = slice_index (core_at v p).registers r
-  value_in (Elements g) = count_by (is_in g) v.cores
+  value_in (Elements g) = count_by (is_counted g) v.cores
 
   abbrev pub term_in : Term → ℕ
   term_in t = t.factor * value_in t.value

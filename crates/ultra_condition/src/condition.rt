@@ -2,7 +2,7 @@
 
 ghost use Rattle.std.specs.Prelude.{◌≡◌, ℕ, ◌<◌, IfOk, IfErr, List, length};
 ghost use Rattle.ultra_para.specs.{ParaState.cores_of};
-ghost use Rattle.ultra_condition.specs.{Condition.{negate, both, either}, ConditionOf.condition_of, Meaning.holds, Limits.AreWithin, Naming.{names_register, is_of_cells}};
+ghost use Rattle.ultra_condition.specs.{Condition.{negate, both, either}, ConditionOf.condition_of, Meaning.holds, Limits.AreWithinLimits, Naming.{names_register, is_of_cells}};
 
 use crate::fault::ConditionFault;
 use crate::sum::{Sign, Sum};
@@ -63,7 +63,7 @@ impl Condition {
     /// Whether the condition holds in a state of these cells and processing elements, which has to
     /// have all that the condition names. It takes no memory.
     pub fn holds(&self, cells: &[Word], processors: &[Processor]) -> bool
-        requires { AreWithin (length cells.now) (length processors.now) (condition_of self.now) }
+        requires { AreWithinLimits (length cells.now) (length processors.now) (condition_of self.now) }
         ensures { result ≡ holds (condition_of self.now)
             record { cells = cells.now; cores = cores_of processors.now } }
     {

@@ -2,7 +2,7 @@
 
 ghost use Rattle.std.specs.{Prelude.{◌≡◌, ◌<◌, ◌≤◌, ◌^◌, IfOk, IfErr, IfSome, None, Some, length, nat_lt, All}, Option.option_map};
 ghost use Rattle.ultra_condition.specs.ConditionOf.{condition_of};
-ghost use Rattle.ultra_condition.specs.Limits.{most_sum, IsThere, IsWithin, AreWithin};
+ghost use Rattle.ultra_condition.specs.Limits.{most_sum, IsThere, IsWithinLimits, AreWithinLimits};
 ghost use Rattle.ultra_condition.specs.Grammar.{sign_at, terms_at, sum_at, comparison_at, negation_at, conjunction_at, disjunction_at, condition_at, read_sum as sum_read, read_condition as condition_read};
 
 use crate::MOST_NESTED;
@@ -21,7 +21,7 @@ use std::alloc::Global;
 pub fn read_condition(alloc: Global, scope: &Scope, text: &str) -> Result<Condition, ConditionFault>
     ensures read { IfOk result (λ c. condition_read scope.now text.now ≡ Some (condition_of c)) }
     ensures within { IfOk result (λ c.
-        AreWithin scope.now.cells scope.now.elements (condition_of c)) }
+        AreWithinLimits scope.now.cells scope.now.elements (condition_of c)) }
     ensures refused { IfErr result (λ f. f ≡ ConditionFault.NotOne →
         condition_read scope.now text.now ≡ None) }
 {
@@ -38,7 +38,7 @@ pub fn read_condition(alloc: Global, scope: &Scope, text: &str) -> Result<Condit
 /// Else the fault says that it isn't one, or that memory was refused.
 pub fn read_sum(alloc: Global, scope: &Scope, text: &str) -> Result<Sum, ConditionFault>
     ensures read { IfOk result (λ s. sum_read scope.now text.now ≡ Some s) }
-    ensures within { IfOk result (λ s. IsWithin scope.now.cells scope.now.elements s) }
+    ensures within { IfOk result (λ s. IsWithinLimits scope.now.cells scope.now.elements s) }
     ensures refused { IfErr result (λ f. f ≡ ConditionFault.NotOne →
         sum_read scope.now text.now ≡ None) }
 {
@@ -129,7 +129,7 @@ fn sum_at<'t>(
     text: &'t [u8],
 ) -> Result<(Sum, &'t [u8]), ConditionFault>
     ensures read { IfOk result (λ r. sum_at scope.now text.now ≡ Some (r.0, r.1.now)) }
-    ensures within { IfOk result (λ r. IsWithin scope.now.cells scope.now.elements r.0) }
+    ensures within { IfOk result (λ r. IsWithinLimits scope.now.cells scope.now.elements r.0) }
     ensures shorter { IfOk result (λ r. length r.1.now ≤ length text.now) }
     ensures refused { IfErr result (λ f. f ≡ ConditionFault.NotOne →
         sum_at scope.now text.now ≡ None) }
@@ -152,7 +152,7 @@ fn comparison_at<'t>(
     ensures read { IfOk result (λ r.
         comparison_at scope.now text.now ≡ Some (condition_of r.0, r.1.now)) }
     ensures within { IfOk result (λ r.
-        AreWithin scope.now.cells scope.now.elements (condition_of r.0)) }
+        AreWithinLimits scope.now.cells scope.now.elements (condition_of r.0)) }
     ensures shorter { IfOk result (λ r. length r.1.now ≤ length text.now) }
     ensures refused { IfErr result (λ f. f ≡ ConditionFault.NotOne →
         comparison_at scope.now text.now ≡ None) }
@@ -176,7 +176,7 @@ fn negation_at<'t>(
     ensures read { IfOk result (λ r.
         negation_at scope.now depth text.now ≡ Some (condition_of r.0, r.1.now)) }
     ensures within { IfOk result (λ r.
-        AreWithin scope.now.cells scope.now.elements (condition_of r.0)) }
+        AreWithinLimits scope.now.cells scope.now.elements (condition_of r.0)) }
     ensures shorter { IfOk result (λ r. length r.1.now ≤ length text.now) }
     ensures refused { IfErr result (λ f. f ≡ ConditionFault.NotOne →
         negation_at scope.now depth text.now ≡ None) }
@@ -208,7 +208,7 @@ fn conjunction_at<'t>(
         conjunction_at scope.now (negation_at scope.now depth) text.now ≡
         Some (condition_of r.0, r.1.now)) }
     ensures within { IfOk result (λ r.
-        AreWithin scope.now.cells scope.now.elements (condition_of r.0)) }
+        AreWithinLimits scope.now.cells scope.now.elements (condition_of r.0)) }
     ensures shorter { IfOk result (λ r. length r.1.now ≤ length text.now) }
     ensures refused { IfErr result (λ f. f ≡ ConditionFault.NotOne →
         conjunction_at scope.now (negation_at scope.now depth) text.now ≡ None) }
@@ -233,7 +233,7 @@ fn disjunction_at<'t>(
     ensures read { IfOk result (λ r.
         condition_at scope.now depth text.now ≡ Some (condition_of r.0, r.1.now)) }
     ensures within { IfOk result (λ r.
-        AreWithin scope.now.cells scope.now.elements (condition_of r.0)) }
+        AreWithinLimits scope.now.cells scope.now.elements (condition_of r.0)) }
     ensures shorter { IfOk result (λ r. length r.1.now ≤ length text.now) }
     ensures refused { IfErr result (λ f. f ≡ ConditionFault.NotOne →
         condition_at scope.now depth text.now ≡ None) }

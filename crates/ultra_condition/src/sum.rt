@@ -2,7 +2,7 @@
 
 ghost use Rattle.std.specs.Prelude.{◌≡◌, ℕ, ◌<◌, List, length};
 ghost use Rattle.ultra_para.specs.{ParaState.cores_of};
-ghost use Rattle.ultra_condition.specs.{Meaning.{sum_in, compares}, Limits.IsWithin, Naming.{sum_names, sum_is_of_cells}};
+ghost use Rattle.ultra_condition.specs.{Meaning.{sum_in, compares}, Limits.IsWithinLimits, Naming.{sum_names, sum_is_of_cells}};
 
 use crate::value::Term;
 use std::marker::Model;
@@ -35,7 +35,7 @@ impl Sum {
     /// The sum's value in a state of these cells and processing elements, which has to have all
     /// that the sum names.
     pub fn value(&self, cells: &[Word], processors: &[Processor]) -> u64
-        requires { IsWithin (length cells.now) (length processors.now) self.now }
+        requires { IsWithinLimits (length cells.now) (length processors.now) self.now }
         ensures { result ≡
             sum_in record { cells = cells.now; cores = cores_of processors.now } self.now }
     {

@@ -4,7 +4,7 @@ ghost use Rattle.std.specs.Prelude.{◌≡◌, ℕ, ◌+◌, ◌-◌, ◌*◌, �
 ghost use Rattle.std.specs.List.{sum, count_by};
 ghost use Rattle.ultra_isa.specs.Step.{Core};
 ghost use Rattle.ultra_para.specs.{Para.Para, ParaState.cores_of};
-ghost use Rattle.ultra_condition.specs.{Meaning.{is_in, least as least_of, greatest as greatest_of, measure_of, words_from, value_in, term_in}, Limits.{most_word, most_measure, most_value, most_term, IsThere}, Naming.{value_names, value_is_of_cells}};
+ghost use Rattle.ultra_condition.specs.{Meaning.{is_counted, least as least_of, greatest as greatest_of, measure_of, words_from, value_in, term_in}, Limits.{most_word, most_measure, most_value, most_term, IsThere}, Naming.{value_names, value_is_of_cells}};
 
 use ultra_isa::{Activity, Processor};
 use ultra_msg::{Cell, Pe, Register, Word};
@@ -28,7 +28,7 @@ pub enum Group {
 impl Group {
     /// Whether the processing element is counted.
     fn has(self, processor: &Processor) -> bool
-        ensures { result ≡ is_in self processor.now.core }
+        ensures { result ≡ is_counted self processor.now.core }
     {
         match self {
             Group::Running => is_running(processor),
@@ -43,7 +43,7 @@ impl Group {
 
     /// How many of these processing elements are counted.
     fn count(self, processors: &[Processor]) -> u64
-        ensures value { result ≡ count_by (is_in self) (cores_of processors.now) }
+        ensures value { result ≡ count_by (is_counted self) (cores_of processors.now) }
         ensures few { result ≤ length processors.now }
     {
         let mut count = 0;
@@ -58,7 +58,7 @@ impl Group {
 
 /// Whether the processing element runs.
 fn is_running(processor: &Processor) -> bool
-    ensures { result ≡ is_in Group.Running processor.now.core }
+    ensures { result ≡ is_counted Group.Running processor.now.core }
 {
     processor.activity() == Activity::Running
 }

@@ -8,7 +8,7 @@ use Rattle.ultra_io.proofs.Writing.{writes_failed}
 use Rattle.ultra_model.specs.{Machine.{Settings, is_quiet, start}, Phases.{after, cycle}, Trace.{by_number, cycle_count}}
 use Rattle.ultra_block.specs.State.{BlocksState}
 use Rattle.ultra_latency.specs.{declared.open.OpenTable.OpenTable, Open.IsOpenTable}
-use Rattle.ultra_trace_alone.specs.{BlocksAfter.IsAfter, RunText.{cycles_made, most_for}}
+use Rattle.ultra_trace_alone.specs.{BlocksAfter.IsAfter, RunText.{cycles_until, most_for}}
 use Rattle.ultra_trace_alone.proofs.Count.{after_none, next_after, quiet_after, first_lines}
 use Rattle.ultra_trace_text.proofs.Numbered.{writes_number}
 use Rattle.ultra_measure.specs.{declared.{window.Window.Window, columns.Form.{Form, TheVariants.{Lines, Values, JobValues}}, measuring.{Layout.Layout, WindowRun.WindowRun}}, Columns.{measures, ending}, Kept.{IsAfterCycle, IsKept}, Nets.IsNetOf, Rows.{row_text, ended_if}, Running.{AreAfter, IsOn, IsWindowRun}}
@@ -87,7 +87,7 @@ module _ (c : Settings) (program : List Instr) where
     row k = row_text form (window_of c program first last e k)
 
     abbrev pub made : ℕ
-    made = cycles_made c program last
+    made = cycles_until c program last
 
     -- the window that begins k times e cycles behind the first, as far as it goes
     pub row_is : (k from to : ℕ) → from ≡ first + k * e → to ≡ min (from + e) made → row_text form (measures c program from to) ≡ row k
@@ -134,23 +134,23 @@ module _ (c : Settings) (program : List Instr) where
   module _ (first last : ℕ) where
     pub lines_are : (e : ℕ) → 1 ≤ e → c.cycles ≤ e → by_number (window_count c program first last e) (λ k. row_text Lines (window_of c program first last e k)) ≡ measure_text c program first last
     unfolding measure_text
-    lines_are e some most = elim (cases_lt first (cycles_made c program last)) [
+    lines_are e some most = elim (cases_lt first (cycles_until c program last)) [
       | inl low ↦
           let within = count_within in
           let one = count_is Lines first last e some 1 (omega (arith, low)) (omega (arith, within, most)) in
-          let close : min (first + (0 + 1) * e) (cycles_made c program last) ≡ cycles_made c program last = omega (arith, within, most) in
+          let close : min (first + (0 + 1) * e) (cycles_until c program last) ≡ cycles_until c program last = omega (arith, within, most) in
           let start : first + 0 * e ≡ first = omega arith in
-          let text = measure_lines (measures c program first (cycles_made c program last)) in
-          let here : nat_lt first (cycles_made c program last) ≡ true = grind (arith, nat_tests) in
+          let text = measure_lines (measures c program first (cycles_until c program last)) in
+          let here : nat_lt first (cycles_until c program last) ≡ true = grind (arith, nat_tests) in
           ap (λ n. by_number n (λ k. row_text Lines (window_of c program first last e k))) one
           ∙ append-nil (row_text Lines (window_of c program first last e 0))
-          ∙ ap (λ n. measure_lines (measures c program n (min (first + (0 + 1) * e) (cycles_made c program last)))) start
+          ∙ ap (λ n. measure_lines (measures c program n (min (first + (0 + 1) * e) (cycles_until c program last)))) start
           ∙ ap (λ n. measure_lines (measures c program first n)) close
-          ∙ sym (cond-true (nat_lt first (cycles_made c program last)) text [] here)
+          ∙ sym (cond-true (nat_lt first (cycles_until c program last)) text [] here)
       | inr high ↦
-          let here : nat_lt first (cycles_made c program last) ≡ false = grind (arith, nat_tests) in
+          let here : nat_lt first (cycles_until c program last) ≡ false = grind (arith, nat_tests) in
           none_are Lines first last e some high
-          ∙ sym (cond-false (nat_lt first (cycles_made c program last)) (measure_lines (measures c program first (cycles_made c program last))) [] here)
+          ∙ sym (cond-false (nat_lt first (cycles_until c program last)) (measure_lines (measures c program first (cycles_until c program last))) [] here)
     ]
 
     pub table_is : (e : ℕ) → names_line (window_of c program first last e 0) ++ by_number (window_count c program first last e) (λ k. row_text Values (window_of c program first last e k)) ≡ measure_table c program first last e
@@ -166,7 +166,7 @@ module _ (c : Settings) (program : List Instr) where
     begins : from ≡ first + k * e
     begins = omega (arith, start, more)
 
-    pub low_is : first + k * e < cycles_made c program last
+    pub low_is : first + k * e < cycles_until c program last
     low_is = let beyond = count_beyond c program from on.busy on.within in omega (arith, begins, more, beyond)
 
     pub kept_here : IsKept b.config b.program r.window.from r.to r.window
@@ -175,7 +175,7 @@ module _ (c : Settings) (program : List Instr) where
     pub ended_here : ended_if r.ended ≡ ending b.config b.program r.window.from r.to
     ended_here = ran.ended ∙ ap (λ f. ending c program f r.to) (sym ran.begins) ∙ sym (ending_in r.to b ran.now.state r.window.from r.to)
 
-    ends : r.to ≡ min (from + e) (cycles_made c program last)
+    ends : r.to ≡ min (from + e) (cycles_until c program last)
     ends = let within = count_within in omega (arith, ran.to, more, within)
 
     text_is : row_text form (measures b.config b.program r.window.from r.to) ≡ row form first last e some k
@@ -189,11 +189,11 @@ module _ (c : Settings) (program : List Instr) where
         writes_number (row form first last e some) k so_far (subst (λ text. Writes taken failures text t u) text_is here)
 
     -- one more window is reached
-    pub reached : (k + 1) * e + 1 ≤ cycles_made c program last - first + e
+    pub reached : (k + 1) * e + 1 ≤ cycles_until c program last - first + e
     reached = omega (arith, low_is)
 
     -- the run ended with it
-    pub high_is : IsSome r.ended → cycles_made c program last ≤ first + (k + 1) * e
+    pub high_is : IsSome r.ended → cycles_until c program last ≤ first + (k + 1) * e
     high_is over = let all = ran.last over in omega (arith, begins, ran.to, all)
 
     -- or the next one begins behind it, if there is one
@@ -204,7 +204,7 @@ module _ (c : Settings) (program : List Instr) where
         omega (arith, begins, more, ran.to, beyond)
 
   -- no cycle is left that is asked for
-  pub none_left : (first last e k from : ℕ) → from ≡ min (first + k * e) (most_for c (Some last)) → most_for c (Some last) ≤ from → (old : BlocksState) (before : OpenTable) → IsOn c program from old before → cycles_made c program last ≤ first + k * e
+  pub none_left : (first last e k from : ℕ) → from ≡ min (first + k * e) (most_for c (Some last)) → most_for c (Some last) ≤ from → (old : BlocksState) (before : OpenTable) → IsOn c program from old before → cycles_until c program last ≤ first + k * e
   none_left first last e k from start over old before on =
       let beyond = count_beyond c program from on.busy on.within in
       let within = on.within in

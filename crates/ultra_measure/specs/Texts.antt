@@ -3,7 +3,7 @@ use Rattle.std.specs.Prelude.{ℕ, ◌+◌, ◌-◌, ◌*◌, ◌/◌, ◌≤◌
 use Rattle.std.specs.List.{flat_map, join_by, range_with_len}
 use Rattle.ultra_isa.specs.declared.Instr.{Instr}
 use Rattle.ultra_model.specs.{Machine.Settings, Text.newline, Trace.by_number}
-use Rattle.ultra_trace_alone.specs.RunText.{cycles_made}
+use Rattle.ultra_trace_alone.specs.RunText.{cycles_until}
 use Rattle.ultra_measure.specs.{declared.measuring.Layout.{Layout, TheVariants.{Lines, Table, JobRows}}, Columns.{Column, of_stage, measures}}
 
 -- a line for each measure that has a value
@@ -50,7 +50,7 @@ all_names =
 module _ (c : Settings) (program : List Instr) (from to : ℕ) where
   -- the cycle behind the last of them
   abbrev pub windows_end : ℕ
-  windows_end = cycles_made c program to
+  windows_end = cycles_until c program to
 
   -- the one window of all of them, as lines
   unfoldable pub measure_text : List ℕ

@@ -7,7 +7,7 @@ use Rattle.ultra_msg.specs.declared.Event.{Event, TheVariants.{Delivered, Served
 use Rattle.ultra_isa.specs.declared.Instr.{Instr}
 use Rattle.ultra_model.specs.{Machine.Settings, Phases.after, Trace.by_number}
 use Rattle.ultra_serial_law.specs.{declared.records.LoggedIssue.LoggedIssue, Log.{is_issue_for, latest_number}, SerialList.history}
-use Rattle.ultra_trace_alone.specs.RunText.{TextPieces, cycles_made, run_text}
+use Rattle.ultra_trace_alone.specs.RunText.{TextPieces, cycles_until, run_text}
 use Rattle.ultra_trace_alone.proofs.Count.{nothing_behind}
 use Rattle.ultra_latency.specs.{declared.open.OpenRequest.OpenRequest, Latency.{latest_among, latest_issue, no_issue}}
 use Rattle.ultra_latency.specs.Open.{open_rows, rows_with, IsOpenIn, IsOpenLaw, NamesOpen, NameOpen}
@@ -72,5 +72,5 @@ event_pieces from to = record { opening = []; lines = shown_of_cycle from to; cl
 pub events_are : (from to : ℕ) (c : Settings) (program : List Instr) → run_text (event_pieces from to) c program ≡ events_of from to c program
 unfolding run_text events_of
 events_are from to c program =
-    append-nil (by_number (cycles_made c program to) (shown_of_cycle from to c program))
+    append-nil (by_number (cycles_until c program to) (shown_of_cycle from to c program))
     ∙ nothing_behind c program to (shown_of_cycle from to c program) (λ k behind. ap (λ shown. if_shown shown (lines_of_cycle c program k)) (hidden from to k behind))

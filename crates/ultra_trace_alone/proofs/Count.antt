@@ -7,7 +7,7 @@ use Rattle.ultra_model.specs.{Machine.{Settings, Machine, start, is_quiet}, Trac
 use Rattle.ultra_block.specs.State.{BlocksState}
 use Rattle.ultra_model.specs.Phases.{after, cycle, reply_phase, memory_phase, request_phase, processor_phase}
 use Rattle.ultra_io.specs.{declared.text_buffer.TextBuffer.TextBuffer, TextBuffer.{Writes, WritesPrefix}}
-use Rattle.ultra_trace_alone.specs.{BlocksAfter.IsAfter, RunText.{TextPieces, cycles_for, cycles_made, most_for}}
+use Rattle.ultra_trace_alone.specs.{BlocksAfter.IsAfter, RunText.{TextPieces, cycles_for, cycles_until, most_for}}
 use Rattle.ultra_io.proofs.Writing.{writes_failed}
 use Rattle.ultra_holders.proofs.Skipped.{range_parts}
 use Rattle.ultra_trace_text.proofs.Numbered.{by_number_more, writes_number}
@@ -130,11 +130,11 @@ silent line n (suc k) h =
     ∙ append-nil (by_number (n + k) line)
     ∙ silent line n k h
 
-pub nothing_behind : (c : Settings) (program : List Instr) (last : ℕ) (line : ℕ → List ℕ) → ((k : ℕ) → last < k → line k ≡ []) → by_number (cycles_made c program last) line ≡ by_number (cycle_count c program) line
+pub nothing_behind : (c : Settings) (program : List Instr) (last : ℕ) (line : ℕ → List ℕ) → ((k : ℕ) → last < k → line k ≡ []) → by_number (cycles_until c program last) line ≡ by_number (cycle_count c program) line
 nothing_behind c program last line h = elim (cases_lt last (cycle_count c program)) [
   | inl behind ↦
       let count : (last + 1) + (cycle_count c program - (last + 1)) ≡ cycle_count c program = omega arith in
-      let made : cycles_made c program last ≡ last + 1 = omega arith in
+      let made : cycles_until c program last ≡ last + 1 = omega arith in
       ap (λ n. by_number n line) made
       ∙ sym (silent line (last + 1) (cycle_count c program - (last + 1)) (λ j far. h j (omega arith)))
       ∙ ap (λ n. by_number n line) count

@@ -14,13 +14,13 @@ pub record TextPieces : Type 0 where
   pub last : Option ℕ
 
 -- how many cycles of the trace aren't behind this one
-abbrev pub cycles_made : Settings → List Instr → ℕ → ℕ
-cycles_made c program last = min (last + 1) (cycle_count c program)
+abbrev pub cycles_until : Settings → List Instr → ℕ → ℕ
+cycles_until c program last = min (last + 1) (cycle_count c program)
 
 -- how many are made
 abbrev pub cycles_for : Settings → List Instr → Option ℕ → ℕ
 cycles_for c program None = cycle_count c program
-cycles_for c program (Some last) = cycles_made c program last
+cycles_for c program (Some last) = cycles_until c program last
 
 -- how many may be made, if the machine isn't quiet before
 abbrev pub most_for : Settings → Option ℕ → ℕ

@@ -2,7 +2,7 @@ use Rattle.std.proofs.Common.{ℕ, ◌≡◌, ◌+◌, ◌*◌, ◌-◌, ◌≤�
 use Rattle.std.specs.Prelude.{Some}
 use Rattle.ultra_model.specs.Trace.{by_number}
 use Rattle.ultra_io.specs.TextBuffer.{Writes}
-use Rattle.ultra_trace_alone.specs.RunText.{cycles_made, most_for}
+use Rattle.ultra_trace_alone.specs.RunText.{cycles_until, most_for}
 use Rattle.ultra_measure.specs.{Rows.row_text, Running.IsOn, Texts.window_of}
 use Rattle.ultra_measure.proofs.measuring.put_rows.Given as goal
 
@@ -12,7 +12,7 @@ invariant-loop-cycle g l =
     let program = l.initial.blocks.program in
     record {
       on : IsOn c program l.cycle l.blocks l.table;
-      windows : (k : ℕ) × (l.cycle ≡ min (l.from + k * l.every) (most_for c (Some l.to))) × (k * l.every + 1 ≤ cycles_made c program l.to - l.from + l.every)
+      windows : (k : ℕ) × (l.cycle ≡ min (l.from + k * l.every) (most_for c (Some l.to))) × (k * l.every + 1 ≤ cycles_until c program l.to - l.from + l.every)
           × Writes g.S.Sink.taken g.S.Sink.failures (by_number k (λ j. row_text l.form (window_of c program l.from l.to l.every j))) l.initial.buffer l.buffer;
     }
 
