@@ -4,7 +4,8 @@ use Rattle.std.specs.{Prelude.◌≢◌, Int.IsInRange, List.position_or_len, St
 use Rattle.std.proofs.{Math.Seq.{take-append_seam, drop-append_seam}, lemmas.{List.take-append-drop, Bool.{and_from, ne_eqb, eq-eqb, eqb-true, le-leb}, Fmt.decimal_is_IsNumeral, Str.Parse.digit_from_value}}
 use Rattle.ultra_msg.specs.declared.{Op.{Op, TheVariants.{Load, Store, Faa, Swap}}, Reply.Reply}
 use Rattle.ultra_msg.specs.declared.Reply.TheVariants as reply
-use Rattle.ultra_model.specs.{Text.reply_text, Words.{OfWord, GivesWord}}
+use Rattle.ultra_model.specs.Text.{reply_text}
+use Rattle.ultra_list.specs.Words.{OfWord, GivesWord}
 use Rattle.ultra_serial_law.specs.declared.records.Entry.{Entry}
 use Rattle.ultra_list.specs.SerialText.{operation_text, list_entry_text, HasWords, BeginsWith}
 use Rattle.ultra_list.specs.Reading.{read_on, read_or, rest_after, is_not_digit, number_at, numbers_at, load_at, words_at, operation_at, reply_at, end_at, entry_at}

@@ -1,3 +1,4 @@
+pub mod Words
 pub mod SerialText
 pub mod Reading
 pub mod Faults

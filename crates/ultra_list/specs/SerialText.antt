@@ -3,7 +3,8 @@
 use Rattle.std.specs.Prelude.{◌≡◌, ◌≢◌, ◌+◌, ◌⊎◌, ℕ, List, [], ◌∷◌, ◌++◌, length, codes, decimal}
 use Rattle.std.specs.List.{AllByRecursion, flat_map}
 use Rattle.ultra_msg.specs.declared.Op.{Op, TheVariants.{Load, Store, Faa, Swap}}
-use Rattle.ultra_model.specs.{Text.{newline, reply_text}, Words.{IsWord, OfWord, GivesWord}}
+use Rattle.ultra_model.specs.Text.{newline, reply_text}
+use Rattle.ultra_list.specs.Words.{IsWord, OfWord, GivesWord}
 use Rattle.ultra_serial_law.specs.declared.records.Entry.{Entry}
 
 -- ---- what is written

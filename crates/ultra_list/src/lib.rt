@@ -7,8 +7,7 @@ mod writing;
 
 ghost use Rattle.std.specs.Prelude.{◌≡◌, List, IfOk, IfErr};
 ghost use Rattle.ultra_serial_law.specs.declared.records.Entry.{Entry as EntryOf};
-ghost use Rattle.ultra_list.specs.{SerialText.{HasWords, IsListText, ListTextLaw, order_text}, Faults.{ExplainsListFault, IsReadAs}};
-ghost use Rattle.ultra_model.specs.Words.{OfWord, GivesWord};
+ghost use Rattle.ultra_list.specs.{Words.{OfWord, GivesWord}, SerialText.{HasWords, IsListText, ListTextLaw, order_text}, Faults.{ExplainsListFault, IsReadAs}};
 
 use line::entry_at;
 use std::alloc::{AllocFailed, Global};
