@@ -156,7 +156,7 @@ fn instruction(
     }
 }
 
-/// The instruction of the words behind a label, or `None` where there are no words. `has_room` says
+/// The instruction of the words behind a label, or `None` if there are no words. `has_room` says
 /// whether the program may have one more.
 fn statement_instruction(
     words: &[&[u8]],
@@ -203,7 +203,7 @@ fn check_name(word: &[u8], index: usize, labels: &Labels) -> Result<(), AsmFault
     }
 }
 
-/// The instruction of the line of this index, from 0, or `None` where it has none. `has_room` says
+/// The instruction of the line of this index, from 0, or `None` if it has none. `has_room` says
 /// whether the program may have one more.
 pub fn line_instruction(
     words: &[&[u8]],

@@ -40,7 +40,7 @@ fn may_go<const OPEN: bool>(
     }
 }
 
-/// The first reply of each queue of a switch goes onto its link, where there is a way to the unit
+/// The first reply of each queue of a switch goes onto its link, if there is a way to the unit
 /// in `targets`. Port 0 finishes before port 1 starts.
 #[inline(always)]
 fn send_from_switch<const OPEN: bool>(
@@ -144,7 +144,7 @@ impl Block {
         self.send_replies_sized::<SMALL>(&closed);
     }
 
-    /// The first reply of each queue of a switch goes onto its link, where there is a way.
+    /// The first reply of each queue of a switch goes onto its link, if there is a way.
     fn send_replies_of_switch<const SMALL: bool, const OPEN: bool>(
         &mut self,
         closed: &UnitSet,

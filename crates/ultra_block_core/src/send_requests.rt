@@ -97,7 +97,7 @@ fn send_from_queue<const OPEN: bool>(
     goes
 }
 
-/// The first request of each queue of a switch goes onto its link, where there is a way to the unit
+/// The first request of each queue of a switch goes onto its link, if there is a way to the unit
 /// in `targets`. Port 0 finishes before port 1 starts. Answers whether any goes.
 #[inline(always)]
 fn send_from_switch<const OPEN: bool>(
@@ -185,7 +185,7 @@ impl Block {
         self.send_requests_sized::<SMALL>(&closed);
     }
 
-    /// The first request of each queue of a switch goes onto its link, where there is a way.
+    /// The first request of each queue of a switch goes onto its link, if there is a way.
     fn send_requests_of_switch<const SMALL: bool, const OPEN: bool>(
         &mut self,
         closed: &Ports<UnitSet>,

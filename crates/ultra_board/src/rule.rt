@@ -29,11 +29,11 @@ pub struct View {
     pub drawn: LinkedList<u64>,
     /// How often one was added to claim.
     pub claims: u64,
-    /// How often claim was loaded, but for the loads that splitting and joining make themselves.
+    /// How often claim was loaded, except the loads that splitting and joining make themselves.
     pub claim_loads: u64,
     /// The numbers finished, in their order.
     pub finished: LinkedList<u64>,
-    /// The last count of all numbers finished that was found.
+    /// The latest count of all numbers finished that was loaded.
     pub seen: u64,
     /// How often the count of all numbers finished was loaded.
     pub reads: u64,

@@ -101,7 +101,7 @@ impl<J: ExpectedResults> WorkerPool<J> {
         }))
     }
 
-    /// The machine makes n cycles, each as by `cycle`.
+    /// Makes n cycles of the machine, each like `cycle`.
     #[tactic(auto, using(crate::proofs::Counted::made_later))]
     pub(crate) fn cycles<R: Wait>(
         &self,
@@ -163,7 +163,7 @@ impl<J: ExpectedResults> WorkerPool<J> {
         Ok(blocks)
     }
 
-    /// Every block makes this half of the cycle, each in its worker's thread. The teams, to which
+    /// Makes this half of the cycle in each block, in its worker's thread. The teams, to which
     /// the blocks are dealt for it, are empty before and after. A fault leaves no block.
     fn make_half<R: Wait>(
         &self,
@@ -216,7 +216,7 @@ impl<J: ExpectedResults> WorkerPool<J> {
         Ok(blocks)
     }
 
-    /// Sends each team to its worker's thread, which makes this half of all its blocks, and takes
+    /// Sends each team to its worker's thread, which makes this half in all its blocks, and takes
     /// it back. A fault leaves none of them.
     fn make_half_of_teams<R: Wait>(
         &self,
@@ -268,7 +268,7 @@ impl<J: ExpectedResults> WorkerPool<J> {
         Ok(())
     }
 
-    /// Takes back the teams of all workers after this half, by their numbers.
+    /// Takes back the teams of all workers after this half, in the order of the workers.
     fn receive_teams<R: Wait>(
         &self,
         rt: &R,

@@ -56,7 +56,7 @@ impl<J: ExpectedResults> Channels<J> {
 /// a half of a cycle takes.
 const MOST_POLLS: u32 = 400;
 
-/// The next message, or `None` where none can come any more.
+/// The next message, or `None` if none can come any more.
 fn receive_next<T: Drop, R: Wait>(rt: &R, from: &Receiver<T>) -> Option<T> {
     for _ in 0..MOST_POLLS {
         match from.try_recv(rt) {

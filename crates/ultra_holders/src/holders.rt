@@ -151,7 +151,7 @@ fn numbered_from<const SMALL: bool>(units: &UnitSet, base: usize, count: usize) 
     }
 }
 
-/// Of the `count` units from number `from` on, those that are in a set and in the same word as
+/// Those of the `count` units from number `from` on that are in the set, and in the same word as
 /// `from`. Bit i stands for unit `from + i`.
 #[inline(always)]
 fn bits_below<const SMALL: bool>(units: &UnitSet, from: usize, count: usize) -> u64

@@ -61,7 +61,7 @@ impl FilledBytes {
         self.filled = end;
     }
 
-    /// Writes bytes at a position, and answers the position behind them.
+    /// Writes bytes at a position, and returns the position after them.
     #[inline(always)]
     pub(crate) fn write<const N: usize>(&mut self, at: usize, bytes: &[u8; N]) -> usize
         requires { at + N ≤ BUFFER_BYTES }
@@ -74,7 +74,7 @@ impl FilledBytes {
         at + N
     }
 
-    /// Writes a number in decimal digits, at most 10, and answers the position behind them.
+    /// Writes a number in decimal digits, at most 10, and returns the position after them.
     #[inline(always)]
     pub(crate) fn write_number(&mut self, at: usize, number: u32) -> usize
         requires { at + 10 ≤ BUFFER_BYTES }
@@ -89,7 +89,7 @@ impl FilledBytes {
         }
     }
 
-    /// Writes a count in decimal digits, at most 20, and answers the position behind them.
+    /// Writes a count in decimal digits, at most 20, and returns the position after them.
     #[inline(always)]
     pub(crate) fn write_count(&mut self, at: usize, count: usize) -> usize
         requires { at + 20 ≤ BUFFER_BYTES }
@@ -99,7 +99,7 @@ impl FilledBytes {
         self.write_digits(at, count)
     }
 
-    /// Writes a number of three digits or more, and answers the position behind it.
+    /// Writes a number of three digits or more, and returns the position after it.
     #[inline(never)]
     fn write_three_or_more(&mut self, at: usize, number: u32) -> usize
         requires three { 100 ≤ number }
@@ -116,7 +116,7 @@ impl FilledBytes {
         self.write_pair(behind, (number % 100) as u8)
     }
 
-    /// Writes decimal digits, two at a time, and answers the position behind them.
+    /// Writes decimal digits, two at a time, and returns the position after them.
     #[inline(never)]
     fn write_digits(&mut self, at: usize, number: usize) -> usize
         requires { at + length (decimal number) ≤ BUFFER_BYTES }
@@ -134,7 +134,7 @@ impl FilledBytes {
         self.write_pair(behind, (number % 100) as u8)
     }
 
-    /// Writes the digits of a number below 10,000, at most four, and answers the position behind
+    /// Writes the digits of a number below 10,000, at most four, and returns the position after
     /// them.
     #[inline(always)]
     fn write_up_to_four(&mut self, at: usize, number: u32) -> usize
@@ -150,7 +150,7 @@ impl FilledBytes {
         }
     }
 
-    /// Writes the digits of a number below 100, one or two, and answers the position behind them.
+    /// Writes the digits of a number below 100, one or two, and returns the position after them.
     #[inline(always)]
     fn write_one_or_two(&mut self, at: usize, number: u8) -> usize
         requires number { number < 100 }
@@ -164,7 +164,7 @@ impl FilledBytes {
         }
     }
 
-    /// Writes a digit, and answers the position behind it.
+    /// Writes a digit, and returns the position after it.
     #[inline(always)]
     fn write_digit(&mut self, at: usize, digit: u8) -> usize
         requires digit { digit < 10 }
@@ -175,7 +175,7 @@ impl FilledBytes {
         at + 1
     }
 
-    /// Writes the two digits of a number below 100, and answers the position behind them.
+    /// Writes the two digits of a number below 100, and returns the position after them.
     #[inline(always)]
     fn write_pair(&mut self, at: usize, number: u8) -> usize
         requires number { number < 100 }

@@ -80,7 +80,7 @@ impl<'s, S: Sink> TextBuffer<'s, S> {
         self.make_room(self.filled_bytes.filled)
     }
 
-    /// Writes bytes at the position where a line goes on, and answers the position behind them.
+    /// Writes bytes at the position where a line goes on, and returns the position after them.
     #[inline(always)]
     pub fn write<const N: usize>(&mut self, at: usize, bytes: &[u8; N]) -> usize
         requires { at + N ≤ BUFFER_BYTES }
@@ -90,7 +90,7 @@ impl<'s, S: Sink> TextBuffer<'s, S> {
         self.filled_bytes.write(at, bytes)
     }
 
-    /// Writes a number in decimal digits, at most 10, and answers the position behind them.
+    /// Writes a number in decimal digits, at most 10, and returns the position after them.
     #[inline(always)]
     pub fn write_number(&mut self, at: usize, number: u32) -> usize
         requires { at + 10 ≤ BUFFER_BYTES }
@@ -100,7 +100,7 @@ impl<'s, S: Sink> TextBuffer<'s, S> {
         self.filled_bytes.write_number(at, number)
     }
 
-    /// Writes a count in decimal digits, at most 20, and answers the position behind them.
+    /// Writes a count in decimal digits, at most 20, and returns the position after them.
     #[inline(always)]
     pub fn write_count(&mut self, at: usize, count: usize) -> usize
         requires { at + 20 ≤ BUFFER_BYTES }
@@ -110,7 +110,7 @@ impl<'s, S: Sink> TextBuffer<'s, S> {
         self.filled_bytes.write_count(at, count)
     }
 
-    /// Makes room for the next part of a line, and answers the position where the line goes on. A
+    /// Makes room for the next part of a line, and returns the position where the line continues. A
     /// buffer that is almost full is flushed first, with what is written of the line.
     #[inline(always)]
     pub fn make_room(&mut self, at: usize) -> usize

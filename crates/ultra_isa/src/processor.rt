@@ -78,7 +78,7 @@ fn awaits_one(interface: &Pni, a: Register, b: Register, c: Register) -> bool
 }
 
 /// The effect that sets the register `d` to the value, of an instruction that names `a` and `b`
-/// too, or `None` where one of the three is awaited.
+/// too, or `None` if one of the three is awaited.
 #[inline(always)]
 fn set_effect(interface: &Pni, d: Register, a: Register, b: Register, value: Word) -> Option<Effect>
     ensures { result ≡ (if list_any (λ r. is_awaited r interface.now.interface.opened)
@@ -277,7 +277,7 @@ impl Processor {
         self.apply(effect, interface)
     }
 
-    /// What an instruction does at the program counter, with these registers, or `None` where it
+    /// What an instruction does at the program counter, with these registers, or `None` if it
     /// names an awaited register.
     #[inline(always)]
     fn effect_of(&self, instruction: Instr, interface: &Pni) -> Option<Effect>

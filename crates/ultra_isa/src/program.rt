@@ -80,7 +80,7 @@ impl Program {
         self.instructions.len()
     }
 
-    /// The instruction at a program counter, or `None` where that is not below the length.
+    /// The instruction at a program counter, or `None` if that is not below the length.
     pub fn instruction(&self, pc: usize) -> Option<Instr>
         ensures at { result ≡ slice_get self.now pc }
         ensures within { IfSome result (λ i. IsTrue (jumps_within (length self.now) i)) }

@@ -42,7 +42,7 @@ impl Model for OpenRow {
     ghost view = { λ r. r.open.items };
 }
 
-/// The place of the first request for a cell, or `None` where there is none.
+/// The place of the first request for a cell, or `None` if there is none.
 fn place_of(requests: &[OpenRequest], cell: Cell) -> Option<usize>
     ensures { result ≡ position (λ o. o.cell == cell) requests.now }
 {
@@ -67,7 +67,7 @@ impl OpenRow {
         self.open.push(request);
     }
 
-    /// The first request for the cell, or `None` where there is none.
+    /// The first request for the cell, or `None` if there is none.
     fn request(&self, cell: Cell) -> Option<OpenRequest>
         ensures { result ≡ request_for cell self.now }
     {
@@ -75,7 +75,7 @@ impl OpenRow {
         Some(self.open.as_slice()[place])
     }
 
-    /// The first request for the cell is answered. Gives it, or `None` where there is none.
+    /// The first request for the cell is answered. Returns it, or `None` if there is none.
     fn take(&mut self, cell: Cell) -> Option<OpenRequest>
         ensures request { result ≡ request_for cell self.old }
         ensures others { self.new ≡ without_request cell self.old }
@@ -114,7 +114,7 @@ impl OpenTable {
         self.rows[pe as usize].open.as_slice()
     }
 
-    /// The open request of a processing element for a cell, or `None` where there is none.
+    /// The open request of a processing element for a cell, or `None` if there is none.
     pub fn request(&self, pe: Pe, cell: Cell) -> Option<OpenRequest>
         requires { pe < length self.now.rows.items }
         ensures { result ≡ request_for cell (row self.now.rows.items pe) }
@@ -167,7 +167,7 @@ impl OpenTable {
     }
 }
 
-/// The latency of a request that is answered in a cycle, where there is one.
+/// The latency of a request that is answered in a cycle, if there is one.
 fn latency_of(answered: Option<OpenRequest>, cycle: u32) -> Option<u32>
     ensures latency { option_to_list result ≡ since cycle answered }
     ensures small { IfSome result (λ l. l ≤ cycle) }

@@ -10,9 +10,9 @@ pub struct Latencies {
     pub count: u32,
     /// The sum.
     pub sum: u64,
-    /// The least, where there are any.
+    /// The least, if there are any.
     pub least: Option<u32>,
-    /// The greatest, where there are any.
+    /// The greatest, if there are any.
     pub greatest: Option<u32>,
 }
 

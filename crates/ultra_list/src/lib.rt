@@ -34,7 +34,7 @@ impl<T: Drop> From<AllocFailed<T>> for ListFault {
     }
 }
 
-/// The list whose text this is: each entry on its own line, as `0.0 faa 0 1 = 1`.
+/// The list whose text this is: each entry on its own line, such as `0.0 faa 0 1 = 1`.
 ///
 /// Else the fault names the first line that isn't an entry, or says that memory was refused. The
 /// latter may replace any other answer.

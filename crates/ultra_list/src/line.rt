@@ -29,7 +29,7 @@ pub(crate) fn entry_at(text: &[u8]) -> Option<(Entry, &[u8])>
     Some((entry, rest))
 }
 
-/// The operation and its cell that a text begins with, as `faa 0 1`, and the text after them.
+/// The operation and its cell that a text begins with, such as `faa 0 1`, and the text after them.
 fn operation_at(text: &[u8]) -> Option<(Op, u32, &[u8])>
     ensures { option_map (λ r. (r.0, r.1, r.2.now)) result ≡ operation_at text.now }
 {

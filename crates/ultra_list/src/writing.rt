@@ -39,7 +39,7 @@ pub fn put_entry<S: Sink>(buffer: &mut TextBuffer<'_, S>, entry: &Entry)
     put_reply(buffer, entry.reply);
 }
 
-/// Puts an operation on a cell in a buffer, as `faa 0 1`.
+/// Puts an operation on a cell in a buffer, such as `faa 0 1`.
 pub fn put_operation<S: Sink>(buffer: &mut TextBuffer<'_, S>, op: Op, cell: Cell)
     ensures { Writes S.taken S.failures (operation_text op cell) buffer.old buffer.new }
 {

@@ -40,7 +40,7 @@ impl Model for Machine {
 
 impl Machine {
     /// The machine of these settings and this program before its first cycle: all registers and
-    /// cells are 0 but for the initial ones, and nothing is on its way.
+    /// cells are 0 except the initial ones, and nothing is on its way.
     ///
     /// It keeps its own copies. An error says that memory was refused.
     pub fn new(alloc: Global, config: &Config, program: &Program) -> Result<Machine, AllocError>

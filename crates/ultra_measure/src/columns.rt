@@ -91,7 +91,7 @@ pub(crate) fn put_row<S: Sink>(
     end_row(buffer, form);
 }
 
-/// Writes the settings but for the first, the window, and how the run ended.
+/// Writes the settings except the first, the window, and how the run ended.
 fn put_settings<S: Sink>(
     buffer: &mut TextBuffer<'_, S>,
     form: Form,

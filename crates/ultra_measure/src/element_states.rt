@@ -80,7 +80,7 @@ impl ElementStates {
         }
     }
 
-    /// Looks at a processing element.
+    /// Finds out what a processing element is doing.
     #[inline(always)]
     fn look_at(&mut self, blocks: &Blocks, net: Net, pe: u32)
         requires one { blocks.now.count ≡ 1 }

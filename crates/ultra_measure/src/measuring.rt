@@ -46,7 +46,7 @@ pub enum Layout {
 /// Cycles behind `to` aren't made. What it holds doesn't grow with the number of cycles.
 ///
 /// `Write` says that the sink failed, and `NoMemory` that memory was refused; it is asked for only
-/// before the first byte is written. `NoThread` is never answered.
+/// before the first byte is written. Never returns `NoThread`.
 pub fn measure<S: Sink>(
     alloc: Global,
     config: &Config,

@@ -21,7 +21,7 @@ pub(crate) struct Depth {
     pub(crate) full: u32,
 }
 
-/// How much a stage holds of a kind. `holders` are the units that hold it.
+/// How much of a kind a stage holds. `holders` are the units that hold it.
 #[inline(always)]
 pub(crate) fn depth_of_stage<const SMALL: bool>(
     blocks: &Blocks,

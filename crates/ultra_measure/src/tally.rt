@@ -37,7 +37,7 @@ impl Tally {
         }
     }
 
-    /// The number of a processing element is another from now on.
+    /// Sets the number of a processing element.
     #[inline(always)]
     pub(crate) fn set(&mut self, pe: u32, value: u32)
         requires pe { pe < 64 }

@@ -104,21 +104,21 @@ impl Module {
         self.cells.len() as u32
     }
 
-    /// The word in the cell at this offset, or `None` where the module has no such cell.
+    /// The word in the cell at this offset, or `None` if the module has no such cell.
     pub fn peek(&self, offset: u32) -> Option<Word>
         ensures { result ≡ slice_get self.now.cells offset }
     {
         self.cells.get(offset as usize).copied()
     }
 
-    /// The request that waits to be served, or `None` where none does.
+    /// The request that waits to be served, or `None` if none does.
     pub fn request(&self) -> Option<Request>
         ensures { result ≡ option_map (λ p. p.request) self.now.inp }
     {
         Some(self.inp.get()?.request.request())
     }
 
-    /// The reply that waits to leave, or `None` where none does.
+    /// The reply that waits to leave, or `None` if none does.
     pub fn reply(&self) -> Option<ReplyMessage>
         ensures { result ≡ self.now.out }
     {
@@ -161,8 +161,8 @@ impl Module {
         self.inp.fill(Placed { request, offset });
     }
 
-    /// Serves the request that waits, and says what was done. Does nothing and gives `None` where
-    /// no request waits, or where the last reply hasn't left.
+    /// Serves the waiting request, and returns what was done. Does nothing and returns `None` if
+    /// no request waits, or if the last reply hasn't left.
     pub fn serve(&mut self) -> Option<Served>
         ensures state { self.new ≡ serve self.old }
         ensures act { result ≡ served self.old }
@@ -188,7 +188,7 @@ impl Module {
         })
     }
 
-    /// Takes the reply out of its register, or gives `None` where there is none. The register is
+    /// Takes the reply out of its register, or returns `None` if there is none. The register is
     /// empty afterwards.
     pub fn take_reply(&mut self) -> Option<ReplyMessage>
         ensures reply { result ≡ self.old.out }

@@ -22,7 +22,7 @@ pub const MOST_REPLY_PLACES: u32 = 64;
 /// The most cycles of a run.
 pub const MOST_CYCLES: u32 = 1_000_000;
 
-/// The settings as they are given: the number of each key, or its default where the key is absent.
+/// The settings as they are given: the number of each key, or its default if the key is absent.
 /// `None` is a value that is missing, or of another kind than wanted.
 #[derive(Drop)]
 pub struct RawSettings {

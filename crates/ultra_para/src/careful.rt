@@ -38,7 +38,7 @@ fn is_fenced_at(program: &Program, pc: usize) -> bool
 }
 
 /// The program counter of the first instruction that refers to a cell and isn't directly followed
-/// by `fence`, from 0. `None` says that the program is careful.
+/// by `fence`, from 0. `None` means that the program is careful.
 pub fn first_unfenced(program: &Program) -> Option<usize>
     ensures first { IfSome result (IsFirstUnfenced program.now) }
     ensures careful { is_none result ≡ careful program.now }

@@ -67,7 +67,7 @@ fn have_stopped(processors: &[Processor]) -> bool
 
 impl Para {
     /// The paracomputer of these settings and this program before its first step: all registers and
-    /// cells are 0 but for the initial ones.
+    /// cells are 0 except the initial ones.
     ///
     /// It keeps its own copies. An error says that memory was refused.
     pub fn new(alloc: Global, config: &Config, program: &Program) -> Result<Para, AllocError>
@@ -154,7 +154,7 @@ impl Para {
         have_stopped(self.processors.as_slice())
     }
 
-    /// The word in a cell, or `None` where the memory has no such cell.
+    /// The word in a cell, or `None` if the memory has no such cell.
     pub fn peek(&self, cell: Cell) -> Option<Word>
         ensures value { result ≡ slice_get self.now.state.cells cell }
         ensures known { IsSome result ↔ (cell < size self.now.settings * self.now.settings.cells) }
@@ -162,7 +162,7 @@ impl Para {
         self.cells.get(cell as usize).copied()
     }
 
-    /// The word in a register, or `None` where there is no such processing element or the number is
+    /// The word in a register, or `None` if there is no such processing element or the number is
     /// above 15.
     pub fn register(&self, pe: Pe, number: u8) -> Option<Word>
         ensures value { IfSome result (λ word.

@@ -22,7 +22,7 @@ use ultra_trace_alone::RunFault;
 /// lines at the end. After a fault the sink has taken a prefix of it.
 ///
 /// `Write` says that the sink failed, and `NoMemory` that memory was refused; it is asked for only
-/// before the first byte is written. `NoThread` is never answered.
+/// before the first byte is written. Never returns `NoThread`.
 pub fn write_para<S: Sink>(
     alloc: Global,
     config: &Config,

@@ -113,7 +113,7 @@ fn put_act<S: Sink>(
     buffer.put(b"\n");
 }
 
-/// Writes the line of a fault, as `fault 1 f2`.
+/// Writes the line of a fault, such as `fault 1 f2`.
 fn put_fault<S: Sink>(buffer: &mut TextBuffer<'_, S>, pe: Pe, fault: MachineFault)
     ensures { Writes S.taken S.failures
         (fault_line (record { pe = pe; fault = fault })) buffer.old buffer.new }

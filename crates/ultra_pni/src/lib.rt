@@ -25,7 +25,7 @@ pub const MOST_OPEN: usize = 8;
 pub struct OpenCell {
     /// The cell.
     pub cell: Cell,
-    /// The register, or `None` where the reference was a store.
+    /// The register, or `None` if the reference was a store.
     pub target: Option<Register>,
 }
 
@@ -73,7 +73,7 @@ impl Model for Pni {
     } p.most_open p.awaited };
 }
 
-/// The place of a cell among the open ones, or `None` where it isn't open.
+/// The place of a cell among the open ones, or `None` if it isn't open.
 fn place_of(opened: &[OpenCell], cell: Cell) -> Option<usize>
     ensures { result ≡ position (λ o. o.cell == cell) opened.now }
 {
@@ -121,7 +121,7 @@ impl Pni {
         Issue::Sent
     }
 
-    /// The request that leaves next, or `None` where none is pending.
+    /// The request that leaves next, or `None` if none is pending.
     pub fn head(&self) -> Option<Request>
         ensures { result ≡ next_pending self.now }
     {
@@ -157,7 +157,7 @@ impl Pni {
     }
 
     /// A reply has come: its cell is no longer open. Gives the register that the reply's value goes
-    /// to, or `None` where it goes to none.
+    /// to, or `None` if it goes to none.
     ///
     /// The cell has to be open, and its request has to have left the list.
     pub fn deliver(&mut self, reply: ReplyMessage) -> Option<Register>
@@ -238,7 +238,7 @@ impl Pni {
         self.pending.at(index).request()
     }
 
-    /// The request that was issued last of those that are pending, or `None` where none is.
+    /// The request that was issued last of those that are pending, or `None` if none is.
     pub fn newest(&self) -> Option<Request>
         ensures { result ≡
             slice_get self.now.interface.pending (length self.now.interface.pending - 1) }

@@ -64,7 +64,7 @@ impl RequestRing {
         self.count += 1;
     }
 
-    /// Takes the first request out of the ring, or answers `None` where there is none.
+    /// Takes the first request out of the ring, or returns `None` if there is none.
     pub(crate) fn pop(&mut self) -> Option<RequestPacket>
         ensures request { result ≡ slice_get self.old 0 }
         ensures rest { self.new ≡ drop 1 self.old }

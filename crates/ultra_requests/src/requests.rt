@@ -23,7 +23,7 @@ use ultra_trace_alone::{RunFault, RunText, write_run};
 /// doesn't grow with the number of cycles.
 ///
 /// `Write` says that the sink failed, and `NoMemory` that memory was refused; it is asked for only
-/// before the first byte is written. `NoThread` is never answered.
+/// before the first byte is written. Never returns `NoThread`.
 pub fn write_requests<S: Sink>(
     alloc: Global,
     config: &Config,

@@ -74,7 +74,7 @@ fn write_with_word<S: Sink, const N: usize>(
     buffer.write_number(at, word)
 }
 
-/// Writes an operation, as `faa 1`: at most 16 bytes.
+/// Writes an operation, such as `faa 1`: at most 16 bytes.
 #[inline(always)]
 pub(crate) fn write_op<S: Sink>(buffer: &mut TextBuffer<'_, S>, at: usize, op: Op) -> usize
     requires { at + 16 ≤ BUFFER_BYTES }

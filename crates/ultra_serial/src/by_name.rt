@@ -145,7 +145,7 @@ impl<T: Copy> ListsByName<T> {
         0
     }
 
-    /// Gives the place of a name the item of an index. It answers `false` where the name has no
+    /// Gives the place of a name the item of an index. Returns `false` if the name has no
     /// place, or the index is too large.
     fn set_place(&mut self, name: RequestName, index: usize) -> bool
         ensures set { result ≡ true → (p n : ℕ) → place_of self.new.rows.items p n ≡

@@ -12,7 +12,7 @@ use crate::request_name::RequestName;
 use crate::{Entry, LoggedAnswer, LoggedIssue};
 use std::alloc::AllocError;
 
-/// The first fault of the next entry of a list, or `None` where it has none; then the entry has
+/// The first fault of the next entry of a list, or `None` if it has none; then the entry has
 /// acted on the memory. An error says that memory was refused.
 ///
 /// `names` has the log and the entries before this one, by name. They have acted on `memory`, and
@@ -79,7 +79,7 @@ fn is_issue_of(issue: &LoggedIssue, entry: &Entry) -> bool
         && issue.op == entry.op
 }
 
-/// Whether an entry of this name is among those before.
+/// Whether an earlier entry has this name.
 fn is_repeated(before: &[Entry], entry: &Entry) -> bool
     ensures yes { result ≡ true → (f : EntryOf) × Has before.now f × HasNameOf f entry.now }
     ensures no { result ≡ false → (f : EntryOf) → Has before.now f → HasNameOf f entry.now → ⊥ }

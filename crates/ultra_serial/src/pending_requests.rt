@@ -20,7 +20,7 @@ pub(crate) struct PendingRequests {
     /// The requests, by the remainder of their processing element. There are no rows before the
     /// first request.
     rows: Vec<PendingRow>,
-    /// Lists that no request has any more, to be used again. What they hold doesn't matter.
+    /// Lists that no request has any more, kept for reuse. What they hold doesn't matter.
     spare: Vec<Vec<NamedRequest>>,
 }
 

@@ -35,7 +35,7 @@ pub(crate) struct SerialState {
 }
 
 impl SerialState {
-    /// Before the first cycle, of a machine with `all_cells` cells.
+    /// The state before the first cycle of a machine with `all_cells` cells.
     pub fn new(
         alloc: Global,
         initial: &[(Cell, Word)],

@@ -175,11 +175,11 @@ fn is_key(text: &str) -> bool
     FIELDS.iter().any(|field| field.name() == text)
 }
 
-/// The settings that a text gives, once they are accepted. Keys that it doesn't give have their
+/// The settings of a text, once they are accepted. Keys that the text doesn't have get their
 /// defaults; only `stages` has none.
 ///
 /// `NotToml` says that the bytes aren't TOML. `BadField` names the first key whose value isn't
-/// accepted; `UnknownKey` comes only where all are. `NoMemory` says that memory was refused.
+/// accepted; `UnknownKey` comes only if all are. `NoMemory` says that memory was refused.
 pub fn settings_from(alloc: Global, bytes: &[u8]) -> Result<Config, SettingsFault>
     ensures ok { IfOk result (λ c. (r : RawSettings) × Gives bytes.now r false ×
         (first_bad r ≡ None) × (c ≡ settings_of r)) }

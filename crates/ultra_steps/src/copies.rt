@@ -37,7 +37,7 @@ pub(crate) fn fresh_copies(
     Ok(copies)
 }
 
-/// A reply is delivered to a copy. Gives what it sets, or `None` where it sets no register.
+/// A reply is delivered to a copy. Gives what it sets, or `None` if it sets no register.
 pub(crate) fn deliver(copy: &mut ProcessingElement, reply: ReplyMessage) -> Option<Setting>
     requires { CanDeliver reply.cell copy.old.interface.interface }
     ensures set { result ≡ set_by_delivery (element_of copy.old) (Some reply) }

@@ -8,7 +8,7 @@ use crate::setting::Reference;
 use ultra_isa::{Instr, Processor};
 use ultra_msg::{Op, Register};
 
-/// The register that an instruction sets where it is done, or `None` where it sets none.
+/// The register that an instruction sets where it is done, or `None` if it sets none.
 pub(crate) fn register_set(instruction: &Instr) -> Option<Register>
     ensures { (s : Site) (registers : List ℕ) (pc : ℕ) →
         result ≡ register_in (effect s registers pc instruction.now) }
@@ -28,7 +28,7 @@ pub(crate) fn register_set(instruction: &Instr) -> Option<Register>
     }
 }
 
-/// The cell that an instruction of a processor refers to, and the operation, or `None` where it
+/// The cell that an instruction of a processor refers to, and the operation, or `None` if it
 /// refers to none.
 pub(crate) fn reference(instruction: &Instr, processor: &Processor) -> Option<Reference>
     ensures { result ≡ reference_in (effect processor.now.site processor.now.core.registers

@@ -278,7 +278,7 @@ fn write_named<S: Sink>(
     buffer.write_number(at, cell)
 }
 
-/// Writes an operation, as `faa 1`: at most 16 bytes.
+/// Writes an operation, such as `faa 1`: at most 16 bytes.
 #[inline(always)]
 fn write_op<S: Sink>(buffer: &mut TextBuffer<'_, S>, at: usize, op: Op) -> usize
     requires { at + 16 ≤ BUFFER_BYTES }

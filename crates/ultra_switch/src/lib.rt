@@ -100,10 +100,10 @@ pub struct Switch {
 }
 
 impl Switch {
-    /// A switch whose queues and wait buffers are empty. `request_places` are the places of each
-    /// queue toward memory, at most `MOST_REQUEST_PLACES`. `reply_places` are those of each queue
-    /// toward the processing elements. `wait_places` are those of each wait buffer, at most
-    /// `MOST_WAIT_PLACES`.
+    /// A switch whose queues and wait buffers are empty. `request_places` is the number of places
+    /// of each queue toward memory, at most `MOST_REQUEST_PLACES`. `reply_places` is that of
+    /// each queue toward the processing elements. `wait_places` is that of each wait buffer, at
+    /// most `MOST_WAIT_PLACES`.
     ///
     /// `NoMemory` means that the memory for a queue was refused.
     pub fn new(

@@ -32,7 +32,7 @@ impl Model for MarkedQueue {
 impl MarkedQueue {
     ghost use Rattle.ultra_switch.specs.{Marks.{MarkedEntries, marked_by}, Partner.IsFirst};
 
-    /// An empty queue of this many places.
+    /// An empty queue with this many places.
     pub(crate) fn new(alloc: Global, places: usize) -> Result<MarkedQueue, AllocError>
         requires { places ≤ MOST_REQUEST_PLACES }
         ensures { IfOk result (λ q. q ≡ record { entries = []; places = places }) }
@@ -76,7 +76,7 @@ impl MarkedQueue {
         }
     }
 
-    /// The request at the front, or `None` where the queue is empty.
+    /// The request at the front, or `None` if the queue is empty.
     pub(crate) fn front(&self) -> Option<RequestPacket>
         ensures { result ≡ request_of (slice_get self.now.entries 0) }
     {
@@ -92,7 +92,7 @@ impl MarkedQueue {
         self.requests.push(request);
     }
 
-    /// Takes the request at the front out of the queue, or answers `None` where the queue is empty.
+    /// Takes the request at the front out of the queue, or returns `None` if the queue is empty.
     /// The marks of the others move with them.
     pub(crate) fn pop(&mut self) -> Option<RequestPacket>
         ensures value { result ≡ request_of (slice_get self.old.entries 0) }

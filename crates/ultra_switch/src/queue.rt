@@ -89,7 +89,7 @@ impl<T: Copy + Default> Queue<T> {
         }
     }
 
-    /// The item at the front, or `None` where the queue is empty.
+    /// The item at the front, or `None` if the queue is empty.
     pub(crate) fn front(&self) -> Option<T>
         ensures { result ≡ slice_get self.now.items 0 }
     {
@@ -109,7 +109,7 @@ impl<T: Copy + Default> Queue<T> {
         self.free -= 1;
     }
 
-    /// Takes the item at the front out of the queue, or answers `None` where the queue is empty.
+    /// Takes the item at the front out of the queue, or returns `None` if the queue is empty.
     pub(crate) fn pop(&mut self) -> Option<T>
         ensures value { result ≡ slice_get self.old.items 0 }
         ensures items { self.new ≡ buffer (drop 1 self.old.items) self.old.capacity }

@@ -66,7 +66,7 @@ impl ToPe {
         self.queue.get(index).message()
     }
 
-    /// The reply at the front, or `None` where the queue is empty.
+    /// The reply at the front, or `None` if the queue is empty.
     pub fn head(&self) -> Option<ReplyMessage>
         ensures { result ≡ first_reply self.now }
     {
@@ -81,7 +81,7 @@ impl ToPe {
         self.put_packet(ReplyPacket::of(reply));
     }
 
-    /// Takes the reply at the front out of the queue, or answers `None` where the queue is empty.
+    /// Takes the reply at the front out of the queue, or returns `None` if the queue is empty.
     pub fn leave(&mut self) -> Option<ReplyMessage>
         ensures value { result ≡ first_reply self.old }
         ensures queue { self.new ≡ without_first self.old }

@@ -115,7 +115,7 @@ impl ToMm {
         self.is_empty() && self.records.is_empty()
     }
 
-    /// The request at the front of the queue, or `None` where the queue is empty.
+    /// The request at the front of the queue, or `None` if the queue is empty.
     pub fn head(&self) -> Option<Request>
         ensures { result ≡ lane_head self.now }
     {
@@ -129,7 +129,7 @@ impl ToMm {
         self.queue.front()
     }
 
-    /// Takes the request at the front out of the queue, or answers `None` where the queue is empty.
+    /// Takes the request at the front out of the queue, or returns `None` if the queue is empty.
     pub fn leave(&mut self) -> Option<Request>
         ensures value { result ≡ lane_head self.old }
         ensures queue { self.new ≡ without_head self.old }

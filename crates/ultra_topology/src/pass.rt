@@ -17,7 +17,7 @@ pub(crate) struct Walk {
 }
 
 impl Walk {
-    /// The same walk at its next unit, or `None` where there is none.
+    /// The same walk at its next unit, or `None` if there is none.
     #[inline(always)]
     pub(crate) fn go_on(self, set: &UnitSet) -> Option<Walk>
         requires { IsWalk self }
@@ -40,7 +40,7 @@ impl Walk {
         Walk::from_word(set, word + 1)
     }
 
-    /// A walk at its first unit in the words from `first` on, or `None` where there is none.
+    /// A walk at its first unit in the words from `first` on, or `None` if there is none.
     #[inline(always)]
     #[tactic(auto, using(crate::proofs::Set::word_steps))]
     pub(crate) fn from_word(set: &UnitSet, first: usize) -> Option<Walk>

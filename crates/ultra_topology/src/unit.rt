@@ -19,7 +19,7 @@ pub enum Unit {
     Nothing,
 }
 
-/// The place of a number among the `size` numbers from `first` on, or `None` where it isn't one of
+/// The place of a number among the `size` numbers from `first` on, or `None` if it isn't one of
 /// those.
 #[inline(always)]
 pub(crate) fn place_from(number: usize, first: usize, size: usize) -> Option<u32>

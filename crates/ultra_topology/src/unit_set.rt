@@ -137,7 +137,7 @@ impl UnitSet {
         self.words[unit.word()] |= 1u64 << (unit.number % 64);
     }
 
-    /// Takes a unit out of the set, if it is there.
+    /// Removes a unit from the set, if it is there.
     #[inline(always)]
     pub fn remove(&mut self, unit: UnitNumber)
         ensures others { AreSameBut unit self.old self.new }

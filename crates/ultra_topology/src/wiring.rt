@@ -121,7 +121,7 @@ pub struct Wiring {
     elements: usize,
     /// How many modules there are, and how many processing elements.
     size: usize,
-    /// By the number of the switch, where it is, and what is beside it.
+    /// Each switch's stage and index, and what is beside it, by the number of the switch.
     switches: Vec<Neighbours>,
 }
 
@@ -185,7 +185,7 @@ impl Wiring {
         }
     }
 
-    /// The module with this number, by its number among modules, or `None` where another unit or
+    /// The module with this number, by its number among modules, or `None` if another unit or
     /// none has it.
     #[inline(always)]
     pub fn module(&self, number: usize) -> Option<u32>
@@ -196,7 +196,7 @@ impl Wiring {
         place_from(number, self.modules, self.size)
     }
 
-    /// The processing element with this number, by its number among those, or `None` where another
+    /// The processing element with this number, by its number among those, or `None` if another
     /// unit or none has it.
     #[inline(always)]
     pub fn element(&self, number: usize) -> Option<u32>

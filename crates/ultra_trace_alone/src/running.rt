@@ -23,7 +23,7 @@ use ultra_msg::Sink;
 /// answers that these lists explain.
 ///
 /// `Write` says that the sink failed, and `NoMemory` that memory was refused; it is asked for only
-/// before the first byte is written. `NoThread` is never answered.
+/// before the first byte is written. Never returns `NoThread`.
 pub fn run_alone<S: Sink>(
     alloc: Global,
     config: &Config,

@@ -53,7 +53,7 @@ pub fn put_cycle_events<S: Sink>(buffer: &mut TextBuffer<'_, S>, blocks: &Blocks
     put_events(buffer, blocks);
 }
 
-/// Writes the first line of a cycle, as `cycle 0`.
+/// Writes the first line of a cycle, such as `cycle 0`.
 fn put_number<S: Sink>(buffer: &mut TextBuffer<'_, S>, number: u32)
     ensures { Writes S.taken S.failures
         (codes "cycle " ++ decimal number ++ newline) buffer.old buffer.new }

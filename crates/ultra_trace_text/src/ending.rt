@@ -56,7 +56,7 @@ fn put_ending<S: Sink>(buffer: &mut TextBuffer<'_, S>, quiet: bool)
     }
 }
 
-/// Writes the line of a cell, as `cell 5 1`, if its value isn't 0.
+/// Writes the line of a cell, such as `cell 5 1`, if its value isn't 0.
 pub fn put_cell<S: Sink>(buffer: &mut TextBuffer<'_, S>, address: Cell, value: Word)
     ensures { Writes S.taken S.failures (cell_line address value) buffer.old buffer.new }
 {

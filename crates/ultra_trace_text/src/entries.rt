@@ -27,7 +27,7 @@ pub(crate) trait Entries {
         requires { index < length (entries self.now) }
         ensures { slice_get (entries self.now) index ≡ Some result };
 
-    /// Writes an entry, which takes at most 66 bytes, and answers the position behind it.
+    /// Writes an entry, which takes at most 66 bytes, and returns the position after it.
     fn write<S: Sink>(buffer: &mut TextBuffer<'_, S>, at: usize, entry: Self::Entry) -> usize
         requires { at + 66 ≤ BUFFER_BYTES }
         ensures goes_on { GoesOn S.taken S.failures (text entry) buffer.old at buffer.new result }

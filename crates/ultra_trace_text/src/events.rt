@@ -62,7 +62,7 @@ fn put_events_of_several<S: Sink>(buffer: &mut TextBuffer<'_, S>, blocks: &Block
     }
 }
 
-/// Writes the line of a delivery, as `got 0@5 = 1`; other events have none.
+/// Writes the line of a delivery, such as `got 0@5 = 1`; other events have none.
 #[inline(always)]
 fn put_got<S: Sink>(buffer: &mut TextBuffer<'_, S>, event: &Event)
     ensures { Writes S.taken S.failures (got_line event.now) buffer.old buffer.new }
@@ -75,7 +75,7 @@ fn put_got<S: Sink>(buffer: &mut TextBuffer<'_, S>, event: &Event)
     }
 }
 
-/// Writes the line of a serving, as `act 0 1@0 faa 2 = 0 now 2`; other events have none.
+/// Writes the line of a serving, such as `act 0 1@0 faa 2 = 0 now 2`; other events have none.
 #[inline(always)]
 fn put_act<S: Sink>(buffer: &mut TextBuffer<'_, S>, event: &Event)
     ensures { Writes S.taken S.failures (act_line event.now) buffer.old buffer.new }
@@ -99,7 +99,7 @@ fn put_act<S: Sink>(buffer: &mut TextBuffer<'_, S>, event: &Event)
     }
 }
 
-/// Writes the line of a processing element that has faulted, as `fault 1 f2`.
+/// Writes the line of a processing element that has faulted, such as `fault 1 f2`.
 fn put_stop<S: Sink>(buffer: &mut TextBuffer<'_, S>, stop: Stop)
     ensures { Writes S.taken S.failures (fault_line stop) buffer.old buffer.new }
 {

@@ -58,7 +58,7 @@ pub(crate) fn put_wait<S: Sink>(
     }
 }
 
-/// Writes the line of the request that waits for a module, as `inp 0: 1@0 faa 2`.
+/// Writes the line of the request that waits for a module, such as `inp 0: 1@0 faa 2`.
 pub(crate) fn put_inp<S: Sink>(buffer: &mut TextBuffer<'_, S>, module: u32, memory_module: &Module)
     ensures { Writes S.taken S.failures
         (inp_line «module» memory_module.now.inp) buffer.old buffer.new }
@@ -70,7 +70,7 @@ pub(crate) fn put_inp<S: Sink>(buffer: &mut TextBuffer<'_, S>, module: u32, memo
     }
 }
 
-/// Writes the line of the reply that waits to leave a module, as `out 0: 1@0 = 0`.
+/// Writes the line of the reply that waits to leave a module, such as `out 0: 1@0 = 0`.
 pub(crate) fn put_out<S: Sink>(buffer: &mut TextBuffer<'_, S>, module: u32, memory_module: &Module)
     ensures { Writes S.taken S.failures
         (out_line «module» memory_module.now.out) buffer.old buffer.new }

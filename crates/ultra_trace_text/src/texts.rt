@@ -27,7 +27,7 @@ pub(crate) fn write_with_word<S: Sink, const N: usize>(
     buffer.write_number(at, word)
 }
 
-/// Writes an operation, as `faa 1`: at most 16 bytes.
+/// Writes an operation, such as `faa 1`: at most 16 bytes.
 #[inline(always)]
 fn write_op<S: Sink>(buffer: &mut TextBuffer<'_, S>, at: usize, op: Op) -> usize
     requires { at + 16 ≤ BUFFER_BYTES }
@@ -133,7 +133,7 @@ pub(crate) fn write_message<S: Sink>(
     write_reply(buffer, at, message.reply)
 }
 
-/// Writes a way of answering, as `plus 1`: at most 16 bytes.
+/// Writes a way of answering, such as `plus 1`: at most 16 bytes.
 fn write_give<S: Sink>(buffer: &mut TextBuffer<'_, S>, at: usize, give: Give) -> usize
     requires { at + 16 ≤ BUFFER_BYTES }
     ensures goes_on { GoesOn S.taken S.failures (give_text give) buffer.old at buffer.new result }
@@ -186,7 +186,7 @@ pub(crate) fn begin_unit<S: Sink, const N: usize>(
     buffer.write(at, b": ")
 }
 
-/// Begins a line that belongs to a position of a stage, as `req 0 1: `. The word has at most 5
+/// Begins a line that belongs to a position of a stage, such as `req 0 1: `. The word has at most 5
 /// bytes, with the space behind it.
 #[inline(always)]
 pub(crate) fn begin_place<S: Sink, const N: usize>(

@@ -36,7 +36,7 @@ impl<A: Allocator> Slot<A> {
     }
 }
 
-/// The place of the tree of a processing element's request for a cell, or `None` where none is
+/// The place of the tree of a processing element's request for a cell, or `None` if none is
 /// held. Each of the `elements` processing elements has `most_open` slots.
 pub(crate) fn place_of<A: Allocator>(
     slots: &[Slot<A>],

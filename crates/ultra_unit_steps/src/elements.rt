@@ -49,7 +49,7 @@ impl ProcessingElement {
         }
     }
 
-    /// The request that leaves next, or `None` where none waits.
+    /// The request that leaves next, or `None` if none waits.
     #[inline(always)]
     pub fn request_head(&self) -> Option<RequestPacket>
         ensures { result ≡ slice_get self.now.interface.interface.pending 0 }

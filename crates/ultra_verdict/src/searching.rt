@@ -46,7 +46,7 @@ pub(crate) fn given_value(cells: &[(Cell, Word)], cell: usize) -> Word
     value
 }
 
-/// What the run answered an entry, where that isn't the entry's reply.
+/// What the run answered an entry, if that isn't the entry's reply.
 pub(crate) fn other_reply(answers: &[LoggedAnswer], entry: &Entry) -> Reply
     requires { (reply : ReplyOf) × IsAnsweredOtherwise answers.now entry.now reply }
     ensures { IsAnsweredOtherwise answers.now entry.now result }

@@ -108,7 +108,7 @@ fn put_lateness<S: Sink>(buffer: &mut TextBuffer<'_, S>, answered: u32, after: &
     buffer.put_number(issued);
 }
 
-/// Puts both values of a cell in a buffer, as `cell 0: 2, list 1`.
+/// Puts both values of a cell in a buffer, such as `cell 0: 2, list 1`.
 fn put_difference<S: Sink>(buffer: &mut TextBuffer<'_, S>, cell: usize, machine: Word, list: Word)
     ensures { Writes S.taken S.failures (difference_text cell machine list) buffer.old buffer.new }
 {
