@@ -41,14 +41,13 @@ class Progress:
             print(f"study: {self._done} of {self._points} points, {left:.0f} s left", file=self._stream, flush=True)
 
 
-def command(folder, name, ultra, hot_cells):
-    words = [str(SCRIPT), str(folder), name, "--ultra", ultra]
-    return [*words, "--hot-cells", ",".join(map(str, hot_cells))] if hot_cells else words
+def command(folder, name, ultra, question):
+    return [str(SCRIPT), str(folder), name, "--ultra", ultra, *question.words()]
 
 
-def command_line(folder, name, ultra, hot_cells):
+def command_line(folder, name, ultra, question):
     """The command for a shell, in which the name is something that an engine or the shell replaces."""
-    return " ".join(it if it is name else shlex.quote(it) for it in command(folder, name, ultra, hot_cells))
+    return " ".join(it if it is name else shlex.quote(it) for it in command(folder, name, ultra, question))
 
 
 def end(process):
@@ -89,12 +88,12 @@ def run_engine(words, folder, log, pieces, progress):
 class Local:
     """The files of jobs that run on this machine. They end with this process, whatever ends it."""
 
-    def __init__(self, folder, ultra, hot_cells, progress):
-        self._folder, self._ultra, self._hot_cells, self._progress = folder, ultra, hot_cells, progress
+    def __init__(self, folder, ultra, question, progress):
+        self._folder, self._ultra, self._question, self._progress = folder, ultra, question, progress
         self._running, self._has_ended, self._lock = set(), False, threading.Lock()
 
     def _start(self, piece):
-        words = [sys.executable, *command(self._folder, piece.name, self._ultra, self._hot_cells), "--until-input-ends"]
+        words = [sys.executable, *command(self._folder, piece.name, self._ultra, self._question), "--until-input-ends"]
         with self._lock:
             if self._has_ended:
                 raise EngineFault("interrupted")
@@ -120,11 +119,11 @@ class Local:
                 it.terminate()
 
 
-def run_local(folder, pieces, ultra, hot_cells, workers, arguments, progress):
+def run_local(folder, pieces, ultra, question, workers, arguments, progress):
     """Runs `workers` files of jobs at once on this machine."""
     if arguments:
         raise EngineFault("--engine-args is for parallel and slurm")
-    local = Local(folder, ultra, hot_cells, progress)
+    local = Local(folder, ultra, question, progress)
     with concurrent.futures.ThreadPoolExecutor(workers) as pool:
         try:
             for it in concurrent.futures.as_completed([pool.submit(local.run, it) for it in pieces]):
@@ -136,9 +135,9 @@ def run_local(folder, pieces, ultra, hot_cells, workers, arguments, progress):
             pool.shutdown(wait=True, cancel_futures=True)
 
 
-def run_parallel(folder, pieces, ultra, hot_cells, workers, arguments, progress):
+def run_parallel(folder, pieces, ultra, question, workers, arguments, progress):
     """Hands the files of jobs to GNU parallel, which tries each three times. Its own options name the hosts."""
-    one = command_line(folder, "{}", ultra, hot_cells)
+    one = command_line(folder, "{}", ultra, question)
     own = ["--jobs", str(workers), "--retries", "3", "--joblog", str(folder / "parallel.joblog")]
     words = ["parallel", *own, *arguments, one, ":::", *(it.name for it in pieces)]
     run_engine(words, folder, folder / "parallel.log", pieces, progress)
@@ -160,9 +159,9 @@ def cancel(log):
         print(f"study: {' '.join(words)} failed: the job may still be on the cluster", file=sys.stderr)
 
 
-def run_slurm(folder, pieces, ultra, hot_cells, workers, arguments, progress):
+def run_slurm(folder, pieces, ultra, question, workers, arguments, progress):
     """Hands the files of jobs to Slurm as array jobs, and waits for them. Slurm itself decides how many run at once."""
-    one = command_line(folder, '"${names[SLURM_ARRAY_TASK_ID]}"', ultra, hot_cells)
+    one = command_line(folder, '"${names[SLURM_ARRAY_TASK_ID]}"', ultra, question)
     for array, index in enumerate(range(0, len(pieces), MOST_TASKS)):
         part = pieces[index:index + MOST_TASKS]
         names = " ".join(it.name for it in part)

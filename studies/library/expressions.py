@@ -2,6 +2,7 @@
 
 import ast
 import operator
+import re
 import sys
 
 BINARY = {
@@ -15,6 +16,10 @@ COMPARED = {
 MOST_LEVELS = 200  # far fewer than the calls that Python lets be open at once
 NESTED = "is nested too deeply"
 GREATEST = sys.float_info.max
+DECIMALS = 5
+# `from` is a column, but a word of Python's own
+FROM_OR_TEXT = re.compile(r"""\bfrom\b|'[^']*'|"[^"]*\"""")
+FROM = "__from__"
 
 
 class FormulaFault(ValueError):
@@ -40,7 +45,8 @@ class Formula:
 
     def __init__(self, text):
         try:
-            self._tree = ast.parse(" ".join(text.split()), mode="eval").body
+            named = FROM_OR_TEXT.sub(lambda it: FROM if it[0] == "from" else it[0], " ".join(text.split()))
+            self._tree = ast.parse(named, mode="eval").body
         except (SyntaxError, ValueError):
             raise FormulaFault("isn't a formula") from None
         except (RecursionError, MemoryError):
@@ -55,6 +61,7 @@ class Formula:
         parts = []
         match node:
             case ast.Name():
+                node.id = "from" if node.id == FROM else node.id
                 self.names.add(node.id)
             case ast.Constant(value=int() | float() | str()):
                 pass
@@ -116,3 +123,10 @@ def number(text):
         except ValueError:
             pass
     return text
+
+
+def shown(value):
+    """A value as a table has it: a number that isn't whole gets five decimals."""
+    if value is None:
+        return ""
+    return f"{value:.{DECIMALS}f}" if isinstance(value, float) else str(value)

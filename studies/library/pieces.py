@@ -8,18 +8,15 @@ import csv
 import hashlib
 import io
 import os
-import subprocess
 import tempfile
 import tomllib
 from dataclasses import dataclass
 from pathlib import Path
 
+from library.question import answers_of
+
 MOST_JOBS = 256
-HOT_COLUMNS = ("hot_answered", "hot_latency_mean", "other_answered", "other_latency_mean")
-
-
-class PieceFault(Exception):
-    """Why a file of jobs couldn't be run, in one line."""
+csv.field_size_limit(2**31 - 1)  # a histogram is one field
 
 
 @dataclass(frozen=True)
@@ -82,11 +79,6 @@ def jobs_text(jobs):
     return "\n".join(f'[[job]]\nconf = "{conf}"\nprog = "{prog}"\n' for conf, prog in jobs)
 
 
-def question(hot_cells, simulator):
-    """A name for what is asked of each job, and of which simulator: answers to another question don't count."""
-    return digest(f"hot cells {hot_cells} {simulator}")[:16]
-
-
 def pieces_of(folder, jobs, size, asked):
     """Writes files of at most `size` jobs for a question."""
     pieces = []
@@ -129,45 +121,12 @@ def is_answered(folder, piece):
     return set(piece.jobs) <= set(rows_in(answer_path(folder, piece.name)))
 
 
-def output_of(ultra, arguments, folder):
-    ran = subprocess.run([ultra, *arguments], cwd=folder, capture_output=True, text=True)
-    if ran.returncode != 0:
-        lines = ran.stderr.strip().splitlines() or [f"ultra ended with status {ran.returncode}"]
-        raise PieceFault(lines[0])
-    return ran.stdout
-
-
-def latencies(ultra, folder, conf, prog, hot_cells):
-    """How many requests to hot and to other cells were answered, and after how many cycles on average."""
-    counts, cycles = {"hot": 0, "other": 0}, {"hot": 0, "other": 0}
-    hot = {str(it) for it in hot_cells}
-    lines = output_of(ultra, ["requests", conf, prog], folder).splitlines()
-    for line in lines[1:]:
-        _, _, _, cell, _, issued, answered, _ = line.split(",")
-        if answered:
-            kind = "hot" if cell in hot else "other"
-            counts[kind] += 1
-            cycles[kind] += int(answered) - int(issued)
-    found = {}
-    for kind in counts:
-        found[f"{kind}_answered"] = str(counts[kind])
-        # three decimals, rounded down, as the measure `latency_mean`
-        thousandths = cycles[kind] * 1000 // counts[kind] if counts[kind] else None
-        found[f"{kind}_latency_mean"] = "" if thousandths is None else f"{thousandths // 1000}.{thousandths % 1000:03}"
-    return found
-
-
-def run_piece(folder, name, ultra, hot_cells, workers):
-    """Runs a file of jobs and stores its answers."""
+def run_piece(folder, name, ultra, asked, workers):
+    """Asks a question about the jobs of a file, and stores the answers."""
     path = Path("jobs") / f"{name}.toml"
     jobs = [(it["conf"], it["prog"]) for it in tomllib.loads((folder / path).read_text())["job"]]
-    sizes = ["--workers", str(workers), "--at-once", str(workers)]
-    lines = output_of(ultra, ["sweep", str(path), *sizes, "--measure"], folder)
-    rows = []
-    for (conf, prog), measured in zip(jobs, csv.DictReader(io.StringIO(lines)), strict=True):
-        del measured["job"]
-        more = latencies(ultra, folder, conf, prog, hot_cells) if hot_cells else {}
-        rows.append({"conf": conf, "prog": prog, **measured, **more})
+    found = answers_of(asked, ultra, folder, str(path), jobs, workers)
+    rows = [{"conf": conf, "prog": prog, **it} for (conf, prog), it in zip(jobs, found, strict=True)]
     body = io.StringIO()
     table = csv.DictWriter(body, list(rows[0]), lineterminator="\n")
     table.writeheader()

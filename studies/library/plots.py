@@ -1,88 +1,23 @@
 """Plots of a table by gnuplot, as SVG and PNG."""
 
-import re
 import subprocess
-import sys
-from dataclasses import dataclass
 
+from library.drawn import drawn_curves, lines_of
 from library.expressions import number
-from library.study_file import StudyFault
+from library.keys import StudyFault
+from library.plot_keys import Distribution, Heat
 
 COLORS = ("#1b6ca8", "#c8553d", "#3a7d44", "#7b4b94", "#d4a017", "#4f4f4f", "#008b8b", "#a0522d")
 POINTS = (4, 6, 8, 10, 12, 5, 7, 9)
-SIZES = {"svg": "svg size 900,560 font 'DejaVu Sans,14' background 'white'", "png": "pngcairo size 1100,680 font 'DejaVu Sans,13'"}
+HEAT = "'#f4f4f4', 0.02 '#fde6c4', 0.5 '#dd6b20', 1 '#5a1a0a'"  # what isn't zero differs from zero
 
 
-@dataclass(frozen=True)
-class Drawn:
-    """A line of a plot: its label, the values of its columns `by`, and its points from left to right.
-
-    A point is x and y, and with error bars the half width of the interval of y.
-    """
-
-    label: str
-    group: tuple
-    is_dashed: bool
-    points: list
-
-    def has_bars(self):
-        return any(len(it) > 2 for it in self.points)
-
-
-NAME_IN_LABEL = re.compile(r"\{(\w+)\}")
-
-
-def label_of(template, row):
-    return NAME_IN_LABEL.sub(lambda it: row[it[1]], template)
-
-
-def check_plots(study, columns):
-    """Refuses a name in a plot that isn't a column."""
-    for plot in study.plots:
-        named = [(f"{plot.key}.x", plot.x)]
-        for line in plot.lines:
-            named += [(f"{line.key}.y", line.y), *((f"{line.key}.by", it) for it in line.by)]
-            named += [(f"{line.key}.where", it) for it in sorted(line.where.names if line.where else ())]
-            named += [(f"{line.key}.label", it) for it in NAME_IN_LABEL.findall(line.label)]
-        for key, name in named:
-            if name not in columns:
-                raise StudyFault(key, f"there is no column {name}")
-
-
-def number_in(row, column, key):
-    """The place on an axis that a row has in a column."""
-    value = number(row[column])
-    if isinstance(value, str) or not -sys.float_info.max <= value <= sys.float_info.max:
-        raise StudyFault(key, f"the column {column} isn't numbers")
-    return value
-
-
-def points_of(rows, x, line):
-    """The points of a line from left to right. A solid line has error bars where the table has an interval."""
-    columns = [x, line.y]
-    if f"{line.y}_ci" in rows[0] and not line.is_dashed:
-        columns.append(f"{line.y}_ci")
-    points = sorted(tuple(number_in(it, column, line.key) for column in columns) for it in rows if it[x] and it[line.y])
-    if len({it[0] for it in points}) < len(points):
-        raise StudyFault(f"{line.key}.by", f"a line has two points with the same {x}")
-    return points
-
-
-def lines_of(plot, rows):
-    """The lines of a plot."""
-    found = []
-    for line in plot.lines:
-        groups = {}
-        for row in rows:
-            if line.where is None or line.where.value({it: number(row[it]) for it in line.where.names}):
-                groups.setdefault(tuple(row[it] for it in line.by), []).append(row)
-        for group, chosen in groups.items():
-            points = points_of(chosen, plot.x, line)
-            if points:
-                found.append(Drawn(label_of(line.label, chosen[0]), group, line.is_dashed, points))
-    if not found:
-        raise StudyFault(plot.key, "has no point")
-    return found
+def terminals(height):
+    """The terminals of gnuplot by the ending of the picture; `height` is that of the SVG."""
+    return {
+        "svg": f"svg size 900,{height} font 'DejaVu Sans,14' background 'white'",
+        "png": f"pngcairo size 1100,{height * 11 // 9} font 'DejaVu Sans,13'",
+    }
 
 
 def quoted(text):
@@ -96,9 +31,12 @@ def looks(lines):
     for line in lines:
         if line.is_dashed:
             color = COLORS[groups.index(line.group) % len(COLORS)] if line.group in groups else "#000000"
-            yield f"with lines lc rgb '{color}' lw 2 dt 2"
+            yield f"with {'steps' if line.is_curve else 'lines'} lc rgb '{color}' lw 2 dt 2"
+            continue
+        place = solid.index(line)
+        if line.is_curve:
+            yield f"with steps lc rgb '{COLORS[place % len(COLORS)]}' lw 2"
         else:
-            place = solid.index(line)
             kind = "yerrorlines" if line.has_bars() else "linespoints"
             yield f"with {kind} lc rgb '{COLORS[place % len(COLORS)]}' lw 2 pt {POINTS[place % len(POINTS)]} ps 0.9"
 
@@ -106,8 +44,10 @@ def looks(lines):
 def axes(plot, lines):
     """The ranges and marks of the axes."""
     values = sorted({point[0] for line in lines for point in line.points})
-    text = ["set logscale y 10" if "y" in plot.log else "set yrange [0:*]\nset offsets 0, 0, graph 0.04, 0"]
-    if "x" in plot.log:
+    text = ["set logscale y 10\nset format y '%g'" if "y" in plot.log else "set yrange [0:*]\nset offsets 0, 0, graph 0.04, 0"]
+    if "x" in plot.log and isinstance(plot, Distribution):
+        text.append(f"set logscale x 10\nset xrange [{max(values[0], 1)}:{values[-1] * 1.05}]")
+    elif "x" in plot.log:
         text.append(f"set logscale x 2\nset xrange [{values[0] * 0.95}:{values[-1] * 1.05}]")
         text.append("set xtics (" + ", ".join(f"'{it}' {it}" for it in values) + ")")
     else:
@@ -115,23 +55,60 @@ def axes(plot, lines):
     return text
 
 
-def script(plot, lines, name):
-    """The gnuplot script that draws the lines into NAME.svg and NAME.png."""
-    text = []
-    for index, line in enumerate(lines):
-        text.append(f"$line{index} << END\n" + "".join(" ".join(map(str, it)) + "\n" for it in line.points) + "END")
-    text += [
+def head(plot):
+    """The title and the names of the axes."""
+    return [
         f"set title {quoted(plot.title)} noenhanced", f"set xlabel {quoted(plot.x_label)} noenhanced",
-        f"set ylabel {quoted(plot.y_label)} noenhanced", "set grid lt 1 lw 1 lc rgb '#dddddd'", "set border 3",
-        "set tics nomirror", "set key below noenhanced Left reverse spacing 1.2 maxcols 2 width 2", *axes(plot, lines),
+        f"set ylabel {quoted(plot.y_label)} noenhanced", "set border 3", "set tics nomirror",
+    ]
+
+
+def outputs(plot, drawn, height):
+    """The lines that draw the same into NAME.svg and NAME.png."""
+    text = []
+    for ending, terminal in terminals(height).items():
+        text.append(f"set terminal {terminal}\nset output {quoted(f'{plot.name}.{ending}')}\n{drawn}")
+    return text
+
+
+def block(name, points):
+    return f"${name} << END\n" + "".join(" ".join(map(str, it)) + "\n" for it in points) + "END"
+
+
+def script(plot, lines):
+    """The gnuplot script that draws the lines."""
+    text = [block(f"line{index}", line.points) for index, line in enumerate(lines)]
+    text += [
+        *head(plot), "set grid lt 1 lw 1 lc rgb '#dddddd'",
+        "set key below noenhanced Left reverse spacing 1.2 maxcols 2 width 2", *axes(plot, lines),
     ]
     parts = []
     for index, (line, look) in enumerate(zip(lines, looks(lines))):
         parts.append(f"$line{index} using {'1:2:3' if line.has_bars() else '1:2'} {look} title {quoted(line.label)}")
-    for ending, terminal in SIZES.items():
-        text.append(f"set terminal {terminal}\nset output {quoted(f'{name}.{ending}')}")
-        text.append("plot " + ", \\\n    ".join(parts))
-    return "\n".join(text) + "\n"
+    return "\n".join([*text, *outputs(plot, "plot " + ", \\\n    ".join(parts), 560)]) + "\n"
+
+
+def places_of(heat, queues):
+    """The position, the stage and the value of each queue of the point that a heat map shows."""
+    found = []
+    for row in queues:
+        if heat.where.value({it: number(row[it]) for it in heat.where.names}):
+            value = heat.value.value({it: number(row[it]) for it in heat.value.names})
+            if not isinstance(value, (int, float)):
+                raise StudyFault(f"{heat.key}.value", "can't be calculated")
+            found.append((int(row["position"]), int(row["stage"]), value))
+    return found
+
+
+def heat_script(heat, places):
+    """The gnuplot script of a heat map. The stages are drawn upward, from the PEs to the memory."""
+    positions, stages = (max(it[axis] for it in places) + 1 for axis in (0, 1))
+    text = [
+        block("map", places), *head(heat), f"set xrange [-0.5:{positions - 0.5}]", f"set yrange [-0.5:{stages - 0.5}]",
+        f"set ytics 0,1,{stages - 1}", f"set palette defined (0 {HEAT})", f"set cblabel {quoted(heat.label)} noenhanced",
+        f"set cbrange [0:{max(it[2] for it in places) or 1}]", "set tics out",
+    ]
+    return "\n".join([*text, *outputs(heat, "plot $map using 1:2:3 with image pixels notitle", 360)]) + "\n"
 
 
 def run_gnuplot(name, folder):
@@ -144,15 +121,26 @@ def run_gnuplot(name, folder):
     except FileNotFoundError:
         raise
     except BaseException:
-        for ending in SIZES:
+        for ending in ("svg", "png"):
             (folder / f"{name}.{ending}").unlink(missing_ok=True)
         raise
 
 
-def draw(study, rows, folder):
-    """Writes each plot into the folder. False where there is no gnuplot. Raises StudyFault."""
-    scripts = [(it.name, script(it, lines_of(it, rows), it.name)) for it in study.plots]
-    for name, text in scripts:
+def scripts(study, rows, histograms, queues):
+    """The gnuplot script of each plot, by its name."""
+    found = {}
+    for plot in study.plots:
+        if isinstance(plot, Heat):
+            found[plot.name] = heat_script(plot, places_of(plot, queues))
+        else:
+            drawn = drawn_curves(plot, rows, histograms) if isinstance(plot, Distribution) else lines_of(plot, rows)
+            found[plot.name] = script(plot, drawn)
+    return found
+
+
+def draw(texts, folder):
+    """Draws each script into the folder. False where there is no gnuplot. Raises StudyFault."""
+    for name, text in texts.items():
         (folder / f"{name}.gp").write_text(text)
         try:
             run_gnuplot(name, folder)

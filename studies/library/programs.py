@@ -4,9 +4,11 @@ import subprocess
 from dataclasses import dataclass
 from string import Template
 
+from library.keys import StudyFault
 from library.load import LoadFault, program
-from library.pieces import PieceFault, output_of, stored, sum_of
-from library.study_file import SETTINGS, TRAFFIC, StudyFault
+from library.pieces import stored, sum_of
+from library.question import PieceFault, output_of
+from library.study_file import DEFAULT_CELLS, SETTINGS, TRAFFIC
 
 
 @dataclass(frozen=True)
@@ -92,7 +94,7 @@ def settings_text(study, point):
     settings = {it: value for it, value in {**study.fixed, **point}.items() if it in SETTINGS}
     lines = [f"{it} = {settings[it]}\n" for it in SETTINGS if it in settings]
     if study.initial:
-        stages, cells = settings["stages"], settings.get("cells", 16)
+        stages, cells = settings["stages"], settings.get("cells", DEFAULT_CELLS)
         for address, _ in study.initial:
             if address >= 2**stages * cells:
                 raise StudyFault("fixed.initial", f"there is no cell {address} where stages = {stages} and cells = {cells}")

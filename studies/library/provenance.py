@@ -17,13 +17,16 @@ def seeds_of(study):
     return study.seeds or study.axes.get("seed", [1] if "rate" in study.axes or "think" in study.axes else [])
 
 
-def provenance(study, given, sources, ultra, folder, jobs):
-    """The text of `provenance.json`. `given` is the study's file with its bytes, `jobs` paths of settings and programs."""
+def provenance(study, given, sources, ultra, folder, jobs, tables):
+    """The text of `provenance.json`.
+
+    `given` is the study's file with its bytes, `jobs` are the paths of settings and programs, `tables` those of the tables.
+    """
     version = subprocess.run([ultra, "--version"], capture_output=True, text=True).stdout.strip()
     found = {
         "date": datetime.datetime.now(datetime.UTC).strftime("%Y-%m-%dT%H:%M:%SZ"),
         "study": {name: sum_of(bytes_) for name, bytes_ in given.items()},
-        "results": files_of(folder, ["results.csv"]),
+        "results": files_of(folder, tables),
         "ultra": {"version": version, "sha256": digest_of_program(ultra)},
         "seeds": seeds_of(study),
         "sources": {it.source: it.sum for it in sources.values() if it.is_file},

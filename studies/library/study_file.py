@@ -4,7 +4,10 @@ import itertools
 import tomllib
 from dataclasses import dataclass, field
 
-from library.expressions import Formula, FormulaFault
+from library.expressions import Formula
+from library.keys import StudyFault, formula, known, need, text, values
+from library.plot_keys import Distribution, Heat, plots_of
+from library.question import Question
 
 # the settings of a machine and their ranges
 SETTINGS = {
@@ -14,41 +17,11 @@ SETTINGS = {
 TRAFFIC = ("pattern", "rate", "think", "operation", "hot", "spread", "burst", "seed")
 LOAD_NAMES = ("pattern", "operation")
 LOAD_MEANS = ("rate", "think", "burst")  # these may have a fraction
-TOP = ("title", "programs", "traffic", "fixed", "vary", "where", "seeds", "hot_cells", "columns", "plot")
+DEFAULT_CELLS, DEFAULT_CYCLES = 16, 1000
+TOP = (
+    "title", "programs", "traffic", "fixed", "vary", "where", "seeds", "warm_up", "percentiles", "hot_cells", "columns", "plot",
+)
 MOST_SEEDS = 100
-PLOT = ("name", "title", "x", "y", "by", "label", "where", "x_label", "y_label", "log", "dashed", "line")
-LINE = ("y", "by", "label", "where", "dashed")
-
-
-class StudyFault(Exception):
-    """A key of STUDY.toml and what is wrong with it."""
-
-    def __init__(self, key, fault):
-        super().__init__(f"{key}: {fault}")
-
-
-@dataclass(frozen=True)
-class Line:
-    """One set of lines in a plot: a line for each choice of the columns `by`. Its key is where the file has it."""
-
-    key: str
-    y: str
-    by: tuple
-    label: str
-    where: Formula | None
-    is_dashed: bool
-
-
-@dataclass(frozen=True)
-class Plot:
-    key: str
-    name: str
-    title: str
-    x: str
-    x_label: str
-    y_label: str
-    log: str
-    lines: tuple
 
 
 @dataclass
@@ -61,6 +34,8 @@ class Study:
     programs: dict  # the source of each program: a file, or the arguments of `ultra lib`
     hot_cells: list
     seeds: list = field(default_factory=list)  # those with which each point is run; empty where it is run once
+    warm_up: int = 0  # the cycles at the start that aren't measured
+    percentiles: list = field(default_factory=list)
     where: Formula | None = None
     columns: dict = field(default_factory=dict)
     plots: list = field(default_factory=list)
@@ -75,48 +50,21 @@ class Study:
         """The points, each with all seeds in turn."""
         return [{**point, "seed": it} for point in points for it in self.seeds] if self.seeds else points
 
+    def question(self):
+        """What is asked of each run."""
+        of_each = bool(self.percentiles) or any(isinstance(it, Distribution) for it in self.plots)
+        return Question(self.warm_up, tuple(self.hot_cells), has_latencies=of_each)
 
-def need(holds, key, fault):
-    if not holds:
-        raise StudyFault(key, fault)
-
-
-def known(table, names, key):
-    """Refuses a table that has another key than those."""
-    need(isinstance(table, dict), key, "must be a table")
-    for it in table:
-        need(it in names, f"{key}.{it}" if key else it, "unknown key")
-
-
-def text(table, name, key, default=None):
-    value = table.get(name, default)
-    need(isinstance(value, str), key, "must be a text")
-    return value
-
-
-def formula(value, key, names=None):
-    """A formula over the names, where they are known by now."""
-    need(isinstance(value, str), key, "must be a formula in quotes")
-    try:
-        found = Formula(value)
-    except FormulaFault as fault:
-        raise StudyFault(key, str(fault)) from None
-    for it in sorted(found.names):
-        need(names is None or it in names, key, f"there is no column {it}")
-    return found
+    def heat_points(self, points):
+        """The points of which a plot shows the queues, in order."""
+        drawn = [heat.where for heat in self.plots if isinstance(heat, Heat)]
+        return [point for point in points if any(it.value(point) for it in drawn)]
 
 
 def setting(name, value, key):
     least, most = SETTINGS[name]
     is_good = isinstance(value, int) and not isinstance(value, bool) and least <= value <= most
     need(is_good, key, f"must be {least} to {most}")
-    return value
-
-
-def values(value, key):
-    need(isinstance(value, list) and value, key, "must be a list with a value")
-    need(all(type(it) in (int, float, str) for it in value), key, "must be a list of numbers or texts")
-    need(len(set(value)) == len(value), key, "has a value twice")
     return value
 
 
@@ -218,47 +166,21 @@ def seeds_of(raw, axes, fixed):
     return list(range(1, count + 1))
 
 
-def line_of(raw, key):
-    by = raw.get("by", [])
-    need(isinstance(by, list) and all(isinstance(it, str) for it in by), f"{key}.by", "must be a list of columns")
-    where = formula(raw["where"], f"{key}.where") if "where" in raw else None
-    dashed = raw.get("dashed", False)
-    need(isinstance(dashed, bool), f"{key}.dashed", "must be true or false")
-    y = text(raw, "y", f"{key}.y")
-    label = text(raw, "label", f"{key}.label", ", ".join(f"{it} {{{it}}}" for it in by) or y)
-    return Line(key, y, tuple(by), label, where, dashed)
+def warm_up_of(raw, axes, fixed):
+    """The cycles at the start that aren't measured."""
+    cycles = raw.get("warm_up", 0)
+    most = SETTINGS["cycles"][1] - 1
+    need(type(cycles) is int and 0 <= cycles <= most, "warm_up", f"must be 0 to {most}")
+    for it in axes.get("cycles", [fixed.get("cycles", DEFAULT_CYCLES)]):
+        need(cycles < it, "warm_up", f"isn't below cycles = {it}")
+    return cycles
 
 
-def plot_of(raw, number):
-    key = f"plot[{number}]"
-    known(raw, PLOT, key)
-    lines = raw.get("line", [])
-    need(isinstance(lines, list), f"{key}.line", "must be tables [[plot.line]]")
-    found = [line_of(raw, key)] if "y" in raw or not lines else []
-    for index, it in enumerate(lines):
-        known(it, LINE, f"{key}.line[{index}]")
-        found.append(line_of(it, f"{key}.line[{index}]"))
-    log = text(raw, "log", f"{key}.log", "")
-    need(log in ("", "x", "y", "xy"), f"{key}.log", "must be x, y or xy")
-    name = text(raw, "name", f"{key}.name", f"plot_{number}")
-    need(name.isidentifier(), f"{key}.name", "must be a name")
-    x = text(raw, "x", f"{key}.x")
-    return Plot(
-        key, name, text(raw, "title", f"{key}.title"), x, text(raw, "x_label", f"{key}.x_label", x),
-        text(raw, "y_label", f"{key}.y_label", found[0].y), log, tuple(found),
-    )
-
-
-def plots_of(raw):
-    plots = raw.get("plot", [])
-    need(isinstance(plots, list), "plot", "must be tables [[plot]]")
-    found = {}
-    for number, it in enumerate(plots):
-        plot = plot_of(it, number)
-        # the pictures are named after it
-        need(plot.name not in found, f"plot[{number}].name", "is that of another plot")
-        found[plot.name] = plot
-    return list(found.values())
+def percentiles_of(raw):
+    """The whole percentages for which the latency is wanted that so many of the answers don't exceed."""
+    found = values(raw["percentiles"], "percentiles") if "percentiles" in raw else []
+    need(all(type(it) is int and 1 <= it <= 100 for it in found), "percentiles", "must be numbers from 1 to 100")
+    return found
 
 
 def columns_of(raw):
@@ -283,9 +205,12 @@ def study_of(bytes_):
     study = Study(
         title=text(raw, "title", "title"), axes=axes, fixed=fixed, programs=programs,
         parameters=parameters_of(raw), initial=initial_of(raw), seeds=seeds_of(raw, axes, fixed),
-        hot_cells=hot_cells_of(raw), columns=columns_of(raw),
+        warm_up=warm_up_of(raw, axes, fixed), percentiles=percentiles_of(raw), hot_cells=hot_cells_of(raw), columns=columns_of(raw),
         where=formula(raw["where"], "where", axes) if "where" in raw else None,
-        plots=plots_of(raw),
+        plots=plots_of(raw, axes),
     )
-    need(study.points(), "where", "leaves no point")
+    points = study.points()
+    need(points, "where", "leaves no point")
+    for it in study.plots:
+        it.check(points, study.hot_cells)
     return study

@@ -4,20 +4,16 @@ import csv
 import tempfile
 from pathlib import Path
 
-from library.expressions import number
+from library.expressions import number, shown
 from library.intervals import SUFFIXES, summary
-from library.pieces import HOT_COLUMNS, output_of
-from library.study_file import SETTINGS, StudyFault
+from library.keys import StudyFault
+from library.further_tables import further_columns
+from library.latencies import histogram_of, mean, percentile
+from library.question import output_of
+from library.study_file import SETTINGS
 
-DECIMALS = 5
 OF_POINT = {*SETTINGS, "pes", "from"}  # measures that are the same in all runs of a point
-
-
-def shown(value):
-    """A value as the table has it: a number that isn't whole gets five decimals."""
-    if value is None:
-        return ""
-    return f"{value:.{DECIMALS}f}" if isinstance(value, float) else str(value)
+HISTOGRAMS = ("latencies", "hot_latencies", "other_latencies")
 
 
 def measures_of(ultra):
@@ -26,6 +22,24 @@ def measures_of(ultra):
         (Path(folder) / "conf.toml").write_text("stages = 1\n")
         (Path(folder) / "prog.s").write_text("halt\n")
         return output_of(ultra, ["measure", "conf.toml", "prog.s", "--csv"], folder).splitlines()[0].split(",")
+
+
+def latency_columns(study):
+    """The columns that follow from how long requests took."""
+    kinds = ["hot_", "other_"] if study.hot_cells else []
+    counts = [f"{kind}{it}" for kind in kinds for it in ("answered", "latency_mean")]
+    return counts + [f"{kind}p{it}" for kind in ["", *kinds] for it in study.percentiles]
+
+
+def latency_values(study, answer):
+    """The values of these columns from the answer to a run."""
+    found = {}
+    for kind in ("", "hot_", "other_"):
+        if f"{kind}latencies" in answer:
+            histogram = histogram_of(answer[f"{kind}latencies"])
+            found |= {f"{kind}answered": str(histogram.total()), f"{kind}latency_mean": mean(histogram)}
+            found |= {f"{kind}p{it}": shown(percentile(histogram, it)) for it in study.percentiles}
+    return {it: found[it] for it in latency_columns(study)}
 
 
 def without_interval(study):
@@ -45,6 +59,9 @@ def columns_of(study, measures):
     """The names of the columns. Raises StudyFault where two are the same, or a formula names none of those before it."""
     of_run, all_columns = list(study.axes), set(study.axes)
     single = without_interval(study)
+    for name in further_columns(study):
+        if name in study.axes:
+            raise StudyFault(f"vary.{name}", "is a column already")
 
     def add(name, key):
         of_run.append(name)
@@ -53,7 +70,7 @@ def columns_of(study, measures):
                 raise StudyFault(key, "is a column already" if it == name else f"{it} is a column already")
             all_columns.add(it)
 
-    for name in [*measures, *(HOT_COLUMNS if study.hot_cells else ())]:
+    for name in [*measures, *latency_columns(study)]:
         if name not in study.axes or name not in SETTINGS:
             add(name, f"vary.{name}")
     for name, formula in study.columns.items():
@@ -63,10 +80,14 @@ def columns_of(study, measures):
     return all_columns
 
 
-def row_of(study, point, measured):
+def row_of(study, point, answer):
     """The row of one run."""
+    if answer["to"] == "":
+        where = ", ".join(f"{name} = {value}" for name, value in point.items())
+        raise StudyFault("warm_up", f"the run ends before it does, where {where}")
     row = {name: shown(it) for name, it in point.items()}
-    row |= {name: it for name, it in measured.items() if name not in row}
+    row |= {name: it for name, it in answer.items() if name not in row and name not in HISTOGRAMS}
+    row |= latency_values(study, answer)
     for name, formula in study.columns.items():
         value = formula.value({it: number(row[it]) for it in formula.names})
         row[name] = shown(int(value) if isinstance(value, bool) else value)

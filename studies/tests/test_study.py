@@ -14,89 +14,19 @@ import tempfile
 import time
 import unittest
 import unittest.mock
-from collections import namedtuple
 from pathlib import Path
 
-from support import STUDIES, script
+from support import SMALL, STUDIES, InFolder, study
 
+from library.drawn import Drawn, lines_of
 from library.expressions import Formula, FormulaFault, number
 from library.intervals import student, summary
-from library.pieces import (
-    Piece, answer_path, digest_of_program, is_answered, jobs_of, jobs_text, pieces_of, question, rows_in, write,
-)
-from library.plots import COLORS, Drawn, lines_of, looks, script as gnuplot_script
-from library.study_file import StudyFault, study_of
+from library.keys import StudyFault
+from library.pieces import Piece, answer_path, digest_of_program, is_answered, jobs_of, jobs_text, pieces_of, rows_in, write
+from library.plots import COLORS, looks, script as gnuplot_script
+from library.question import Question
+from library.study_file import study_of
 from library.table import joined
-
-study = script("study")
-Ran = namedtuple("Ran", "returncode stdout stderr")
-SMALL = """
-title = "Small"
-[vary]
-stages = [1, 2]
-wait_places = [0, 4]
-[programs]
-short = "short.s"
-long = "long.s"
-"""
-
-
-class InFolder(unittest.TestCase):
-    """Tests in a new folder, with a script in place of `ultra`."""
-
-    def setUp(self):
-        self.folder = Path(tempfile.mkdtemp())
-        self.addCleanup(shutil.rmtree, self.folder)
-        (self.folder / "short.s").write_text("halt\n")
-        (self.folder / "long.s").write_text("fence\nhalt\n")
-        self.calls, self.dies = self.folder / "calls", self.folder / "dies"
-
-    def study(self, text, *arguments, ultra=STUDIES / "tests" / "fake_ultra"):
-        (self.folder / "study.toml").write_text(text)
-        self.calls.write_text("")
-        names = {"ULTRA": str(ultra), "FAKE_CALLS": str(self.calls), "FAKE_DIES": str(self.dies)}
-        out, err = io.StringIO(), io.StringIO()
-        with (unittest.mock.patch.dict(os.environ, names), contextlib.chdir(self.folder),
-              contextlib.redirect_stdout(out), contextlib.redirect_stderr(err)):
-            try:
-                status = study.main(["study.toml", *arguments])
-            except SystemExit as end:
-                status = end.code
-        return Ran(status, out.getvalue(), err.getvalue())
-
-    def bare_path(self):
-        """A PATH that has nothing but Python."""
-        tools = self.folder / "bare"
-        tools.mkdir()
-        (tools / "python3").symlink_to(sys.executable)
-        return unittest.mock.patch.dict(os.environ, {"PATH": str(tools)})
-
-    def tool(self, command, body):
-        """Puts a script in the place of a command. Gives the PATH that finds it first."""
-        tools = self.folder / "tools"
-        tools.mkdir(exist_ok=True)
-        head = "#!/usr/bin/env python3\nimport os, signal, subprocess, sys\nwords = sys.argv[1:]\n"
-        note = f"open({str(self.folder / f'{command}.words')!r}, 'w').write(' '.join(words))\n"
-        (tools / command).write_text(head + note + body)
-        (tools / command).chmod(0o755)
-        return unittest.mock.patch.dict(os.environ, {"PATH": f"{tools}:{os.environ['PATH']}"})
-
-    def words(self, command):
-        """The arguments of the last call of a script in the place of a command."""
-        return (self.folder / f"{command}.words").read_text()
-
-    def catch_interrupts(self):
-        """Has an interrupt end a study, also where the tests run in the background of a shell, which ignores it."""
-        self.addCleanup(signal.signal, signal.SIGINT, signal.signal(signal.SIGINT, signal.default_int_handler))
-
-    def table(self):
-        return (self.folder / "out" / "results.csv").read_text().splitlines()
-
-    def answer_files(self):
-        return sorted((self.folder / "out").glob("answers/*.csv"))
-
-    def sweeps(self):
-        return [it for it in self.calls.read_text().splitlines() if it.startswith("sweep")]
 
 
 class Grid(unittest.TestCase):
@@ -181,8 +111,8 @@ class Intervals(unittest.TestCase):
 class Names(InFolder):
     MACHINES = [("stages = 1\n", "halt\n"), ("stages = 2\n", "halt\n"), ("stages = 3\n", "halt\n")]
 
-    def names(self, machines, size=2, hot_cells=(), simulator="0123"):
-        asked = question(list(hot_cells), simulator)
+    def names(self, machines, size=2, simulator="0123", **question):
+        asked = Question(**question).name(simulator)
         return [it.name for it in pieces_of(self.folder, jobs_of(self.folder, machines), size, asked)]
 
     def test_they_follow_from_the_content(self):
@@ -192,8 +122,8 @@ class Names(InFolder):
         self.assertEqual(self.names([*self.MACHINES[:2], ("stages = 4\n", "halt\n")])[0], names[0])
         for others in ([("stages = 1\nopen = 1\n", "halt\n")], [("stages = 1\n", "fence\n")]):
             self.assertNotEqual(self.names(others + self.MACHINES[1:])[0], names[0])
-        self.assertNotEqual(self.names(self.MACHINES, hot_cells=[0])[0], names[0])
-        self.assertNotEqual(self.names(self.MACHINES, simulator="4567")[0], names[0])
+        for other in ({"hot_cells": (0,)}, {"warm_up": 5}, {"has_latencies": True}, {"is_of_queues": True}, {"simulator": "4567"}):
+            self.assertNotEqual(self.names(self.MACHINES, **other)[0], names[0])
 
     def test_the_script_of_a_tree_is_the_program_built_there(self):
         script_of_tree, built = self.folder / "ultra", self.folder / "crates" / "ultra" / "out" / "ultra"
@@ -556,7 +486,7 @@ class Plots(InFolder):
 
     def drawn(self, plot):
         asked = study_of((SMALL + plot).encode())
-        answers = [{"pes": str(2**it["stages"]), "answered": "7"} for it in asked.points()]
+        answers = [{"pes": str(2**it["stages"]), "to": "9", "answered": "7"} for it in asked.points()]
         return asked.plots[0], lines_of(asked.plots[0], joined(asked, asked.points(), answers))
 
     def test_lines(self):
@@ -580,7 +510,7 @@ class Plots(InFolder):
 
     def test_the_script(self):
         plot, lines = self.drawn(self.PLOT + 'log = "xy"\n')
-        text = gnuplot_script(plot, lines, "p")
+        text = gnuplot_script(plot, lines)
         for it in ("set title 'It''s' noenhanced", "$line1 << END\n2 7\n4 7\nEND\n", "set logscale x 2", "set output 'p.svg'", "set output 'p.png'"):
             self.assertIn(it, text)
 
@@ -589,7 +519,7 @@ class Plots(InFolder):
         rows = [{"a": "1", "b": "3.5", "b_ci": "0.25"}, {"a": "2", "b": "4", "b_ci": "0"}]
         solid, dashed = lines_of(plot, rows)
         self.assertEqual((solid.points, dashed.points), ([(1, 3.5, 0.25), (2, 4, 0)], [(1, 3.5), (2, 4)]))
-        text = gnuplot_script(plot, [solid, dashed], "p")
+        text = gnuplot_script(plot, [solid, dashed])
         for it in ("$line0 << END\n1 3.5 0.25\n2 4 0\nEND\n", "$line0 using 1:2:3 with yerrorlines ", "$line1 using 1:2 with lines "):
             self.assertIn(it, text)
 
