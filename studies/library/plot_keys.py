@@ -1,6 +1,7 @@
 """The tables [[plot]] of STUDY.toml: lines, distributions of latencies, and heat maps of queues."""
 
 from dataclasses import dataclass
+from math import inf
 
 from library.expressions import Formula
 from library.keys import formula, known, need, text
@@ -12,7 +13,7 @@ EVERY = ("kind", "name", "title", "x_label", "y_label")
 KEYS = {
     "lines": (*EVERY, "x", "log", "line", *LINE),
     "distribution": (*EVERY, "log", "line", *DISTRIBUTION_LINE),
-    "heat": (*EVERY, "value", "where", "label"),
+    "heat": (*EVERY, "value", "where", "label", "most"),
 }
 OF = ("all", "hot", "other")
 
@@ -75,6 +76,7 @@ class Heat(Plot):
     value: Formula
     where: Formula
     label: str
+    most: float | None  # the value of the darkest color; by default the greatest value
 
     def check(self, points, hot_cells):
         found = sum(bool(self.where.value(it)) for it in points)
@@ -125,7 +127,9 @@ def of_latencies(raw, key, every):
 def of_queues(raw, key, every, varied):
     value, where = (formula(raw.get(it), f"{key}.{it}", names) for it, names in (("value", QUEUE_COLUMNS), ("where", varied)))
     names = labels(raw, key, "position", "stage (0 is at the PEs)")
-    return Heat(**every, **names, value=value, where=where, label=text(raw, "label", f"{key}.label", value.text))
+    most = raw.get("most")
+    need(most is None or type(most) in (int, float) and 0 < most < inf, f"{key}.most", "must be a number above 0")
+    return Heat(**every, **names, value=value, where=where, label=text(raw, "label", f"{key}.label", value.text), most=most)
 
 
 def labels(raw, key, x_label, y_label):

@@ -106,7 +106,7 @@ def heat_script(heat, places):
     text = [
         block("map", places), *head(heat), f"set xrange [-0.5:{positions - 0.5}]", f"set yrange [-0.5:{stages - 0.5}]",
         f"set ytics 0,1,{stages - 1}", f"set palette defined (0 {HEAT})", f"set cblabel {quoted(heat.label)} noenhanced",
-        f"set cbrange [0:{max(it[2] for it in places) or 1}]", "set tics out",
+        f"set cbrange [0:{heat.most or max(it[2] for it in places) or 1}]", "set tics out",
     ]
     return "\n".join([*text, *outputs(heat, "plot $map using 1:2:3 with image pixels notitle", 360)]) + "\n"
 

@@ -165,6 +165,8 @@ class Heat(unittest.TestCase):
         with self.assertRaisesRegex(StudyFault, r"^plot\[0\]\.value: can't be calculated$"):
             places_of(plot, [row])
         self.assertIn("set cbrange [0:1]\n", heat_script(plot, [(0, 0, 0)]))
+        plot = study_of((SMALL + Running.HEAT + "most = 0.5\n").encode()).plots[0]
+        self.assertIn("set cbrange [0:0.5]\n", heat_script(plot, [(0, 0, 0)]))
 
     def test_the_column_from(self):
         formula = Formula("to - from + ('from' == name)")
@@ -209,6 +211,8 @@ class Refusals(InFolder):
             (heat.replace("stages == 2", "to == 2"), "plot[0].where: there is no column to"),
             (heat.replace("stages == 2", "stages > 0"), "plot[0].where: must hold for one point, not for 2"),
             (heat.replace("stages == 2", "stages > 2"), "plot[0].where: must hold for one point, not for 0"),
+            (heat + "most = 0\n", "plot[0].most: must be a number above 0"),
+            (heat + "most = true\n", "plot[0].most: must be a number above 0"),
             (heat + 'by = ["stages"]\n', "plot[0].by: unknown key"),
             (heat.replace('value = "requests / (to - from)"\n', ""), "plot[0].value: must be a formula in quotes"),
         ):
