@@ -1,5 +1,6 @@
 """The programs of a study: loads, what `ultra lib` writes, and files, in which `$NAME` is a value of the point."""
 
+import re
 import subprocess
 from dataclasses import dataclass
 from string import Template
@@ -10,19 +11,21 @@ from library.pieces import stored, sum_of
 from library.question import PieceFault, output_of
 from library.study_file import DEFAULT_CELLS, SETTINGS, TRAFFIC
 
+LINE = re.compile(r"line (\d+)")
+
 
 @dataclass(frozen=True)
 class Source:
-    """A program of a study: its name, where it comes from, and its text. That of a file may have names to fill in."""
+    """A text of a study: its key, where it comes from, and what it is. That of a file may have names to fill in."""
 
-    name: str
+    key: str
     source: str
     text: str
     is_file: bool
     sum: str = ""  # of the bytes of the file
 
     def fault(self, line, what):
-        return StudyFault(f"programs.{self.name}", f"{self.source}: line {line}: {what}")
+        return StudyFault(self.key, f"{self.source}: line {line}: {what}")
 
     def line_of(self, place):
         return self.text.count("\n", 0, place) + 1
@@ -42,33 +45,38 @@ class Source:
         return Template(self.text).substitute(values) if self.is_file else self.text
 
 
-def library_text(name, source, ultra):
+def library_text(key, source, ultra):
     """What `ultra lib` writes."""
     ran = subprocess.run([ultra, *source.split()], capture_output=True, text=True)
     if ran.returncode:
-        raise StudyFault(f"programs.{name}", (ran.stderr.splitlines() or ["refused"])[0])
+        raise StudyFault(key, (ran.stderr.splitlines() or ["refused"])[0])
     return ran.stdout
 
 
+def file_of(key, source, folder):
+    try:
+        path = folder / source
+        return Source(key, source, path.read_text(), True, sum_of(path.read_bytes()))
+    except (OSError, UnicodeDecodeError):
+        raise StudyFault(key, f"cannot read {source}") from None
+
+
 def sources_of(study, folder, ultra):
-    """The programs of a study by their names. Raises StudyFault."""
+    """The programs of a study by their names, and what comes before each. Raises StudyFault."""
     found = {}
     for name, source in study.programs.items():
+        key = f"programs.{name}"
         if source.startswith("lib "):
-            found[name] = Source(name, source, library_text(name, source, ultra), False)
-            continue
-        try:
-            path = folder / source
-            found[name] = Source(name, source, path.read_text(), True, sum_of(path.read_bytes()))
-        except (OSError, UnicodeDecodeError):
-            raise StudyFault(f"programs.{name}", f"cannot read {source}") from None
-    return found
+            found[name] = Source(key, source, library_text(key, source, ultra), False)
+        else:
+            found[name] = file_of(key, source, folder)
+    return found, file_of("before", study.before, folder) if study.before else None
 
 
 def check_names(study, sources):
-    """Refuses a name in a program that nothing fills in, and a parameter that no program has."""
+    """Refuses a name in a text that nothing fills in, and a parameter that no text has."""
     used = set()
-    for source in sources.values():
+    for source in sources:
         for name, line in source.names().items():
             used.add(name)
             if name not in study.axes and name not in study.fixed and (name != "seed" or not study.seeds):
@@ -102,12 +110,18 @@ def settings_text(study, point):
     return "".join(lines)
 
 
-def machines_of(study, sources, points):
+def program_text(before, source, values):
+    """A program with what comes before it, each with its names filled in."""
+    start = before.filled(values) if before else ""
+    return start + ("\n" if start and not start.endswith("\n") else "") + source.filled(values)
+
+
+def machines_of(study, sources, before, points):
     """The settings and the program of each point, as texts. A load is made once for its values."""
     loads, found = {}, []
     for point in points:
         if sources:
-            text = sources[point["program"]].filled({**study.fixed, **point})
+            text = program_text(before, sources[point["program"]], {**study.fixed, **point})
         else:
             key = tuple(point.get(it) for it in TRAFFIC)
             text = loads[key] if key in loads else loads.setdefault(key, load_text(point))
@@ -115,12 +129,24 @@ def machines_of(study, sources, points):
     return found
 
 
-def check_texts(study, sources, points, machines, folder, ultra):
+def fault_of(before, source, message, values):
+    """The fault of a program that the simulator refuses, by the line of its own file or of what comes before it."""
+    line = LINE.match(message)
+    lines = len(before.filled(values).splitlines()) if before else 0
+    if line and lines:
+        number = int(line[1])
+        source, number = (before, number) if number <= lines else (source, number - lines)
+        message = f"line {number}{message[line.end():]}"
+    shown = [f"{it} = {values[it]}" for it in sorted(source.names())]
+    return StudyFault(source.key, f"{source.source}: {message}{', where ' if shown else ''}{', '.join(shown)}")
+
+
+def check_texts(study, sources, before, points, machines, folder, ultra):
     """Has the simulator read each program that is a file. One that it refuses is named by its file and line."""
     checked = set()
     for point, (_, text) in zip(points, machines) if sources else ():
         source = sources[point["program"]]
-        if not source.is_file or text in checked:
+        if text in checked or not (source.is_file or before):
             continue
         checked.add(text)
         path = stored(folder, "programs", "s", text)
@@ -130,7 +156,4 @@ def check_texts(study, sources, points, machines, folder, ultra):
             start = f"ultra: {path}: "
             if not str(fault).startswith(start):
                 raise
-            values = [f"{it} = {({**study.fixed, **point})[it]}" for it in sorted(source.names())]
-            where = f", where {', '.join(values)}" if values else ""
-            what = f"{source.source}: {str(fault).removeprefix(start)}{where}"
-            raise StudyFault(f"programs.{source.name}", what) from None
+            raise fault_of(before, source, str(fault).removeprefix(start), {**study.fixed, **point}) from None

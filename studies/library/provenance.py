@@ -20,7 +20,8 @@ def seeds_of(study):
 def provenance(study, given, sources, ultra, folder, jobs, tables):
     """The text of `provenance.json`.
 
-    `given` is the study's file with its bytes, `jobs` are the paths of settings and programs, `tables` those of the tables.
+    `given` is the study's file with its bytes, and `sources` are the texts of programs. `jobs` are the paths of settings
+    and programs, `tables` those of the tables.
     """
     version = subprocess.run([ultra, "--version"], capture_output=True, text=True).stdout.strip()
     found = {
@@ -29,7 +30,7 @@ def provenance(study, given, sources, ultra, folder, jobs, tables):
         "results": files_of(folder, tables),
         "ultra": {"version": version, "sha256": digest_of_program(ultra)},
         "seeds": seeds_of(study),
-        "sources": {it.source: it.sum for it in sources.values() if it.is_file},
+        "sources": {it.source: it.sum for it in sources if it.is_file},
         "settings": files_of(folder, {conf for conf, _ in jobs}),
         "programs": files_of(folder, {prog for _, prog in jobs}),
     }

@@ -19,7 +19,7 @@ LOAD_NAMES = ("pattern", "operation")
 LOAD_MEANS = ("rate", "think", "burst")  # these may have a fraction
 DEFAULT_CELLS, DEFAULT_CYCLES = 16, 1000
 TOP = (
-    "title", "programs", "traffic", "fixed", "vary", "where", "seeds", "warm_up", "percentiles", "hot_cells", "columns", "plot",
+    "title", "programs", "before", "traffic", "fixed", "vary", "where", "seeds", "warm_up", "percentiles", "hot_cells", "columns", "plot",
 )
 MOST_SEEDS = 100
 
@@ -33,6 +33,7 @@ class Study:
     initial: list  # pairs of a cell and its value at the start
     programs: dict  # the source of each program: a file, or the arguments of `ultra lib`
     hot_cells: list
+    before: str = ""  # a file whose text comes before each program
     seeds: list = field(default_factory=list)  # those with which each point is run; empty where it is run once
     warm_up: int = 0  # the cycles at the start that aren't measured
     percentiles: list = field(default_factory=list)
@@ -199,11 +200,12 @@ def study_of(bytes_):
         raise StudyFault("not toml", str(fault).splitlines()[0]) from None
     known(raw, TOP, "")
     need(("programs" in raw) != ("traffic" in raw), "programs", "give either programs or traffic")
+    need("before" not in raw or "programs" in raw, "before", "there are no programs")
     programs = programs_of(raw["programs"]) if "programs" in raw else {}
     axes = axes_of(raw, programs)
     fixed = fixed_of(raw, axes)
     study = Study(
-        title=text(raw, "title", "title"), axes=axes, fixed=fixed, programs=programs,
+        title=text(raw, "title", "title"), axes=axes, fixed=fixed, programs=programs, before=text(raw, "before", "before", ""),
         parameters=parameters_of(raw), initial=initial_of(raw), seeds=seeds_of(raw, axes, fixed),
         warm_up=warm_up_of(raw, axes, fixed), percentiles=percentiles_of(raw), hot_cells=hot_cells_of(raw), columns=columns_of(raw),
         where=formula(raw["where"], "where", axes) if "where" in raw else None,

@@ -281,6 +281,20 @@ class Running(InFolder):
             ["program", "rounds", "stages"], ["loop.s", "7", "1"], ["loop.s", "11", "1"], ["short.s", "7", "1"], ["short.s", "11", "1"],
         ])
 
+    def test_what_comes_before_each_program(self):
+        (self.folder / "start.s").write_text("li r1 $seed\n$op r2 r2")
+        text = 'title = "t"\nbefore = "start.s"\nseeds = 2\n[programs]\na = "short.s"\nb = "lib barrier 4"\n[fixed]\nstages = 1\nop = "faa"\n'
+        ran = self.study(text)
+        self.assertEqual(ran.returncode, 0, ran.stderr)
+        programs = {it.read_text() for it in (self.folder / "out" / "programs").iterdir()}
+        self.assertEqual(programs, {f"li r1 {seed}\nfaa r2 r2\nhalt\n" for seed in (1, 2)})
+        self.assertEqual(sorted(self.provenance()["sources"]), ["short.s", "start.s"])
+        self.assertEqual(self.study(text.replace("faa", "frobnicate")).stderr, (
+            "study: study.toml: before: start.s: line 2: unknown word, where op = frobnicate, seed = 1\n"
+        ))
+        (self.folder / "short.s").write_text("halt\nfrobnicate\n")
+        self.assertEqual(self.study(text).stderr, "study: study.toml: programs.a: short.s: line 2: unknown word\n")
+
     def test_initial_cells(self):
         self.assertEqual(self.study(SMALL + "[fixed]\ncells = 2\ninitial = [[0, 5], [3, 4294967295]]\n").returncode, 0)
         settings = {it.read_text() for it in (self.folder / "out" / "settings").iterdir()}
@@ -587,6 +601,8 @@ class Refusals(InFolder):
             (self.HEAD + 'programs = ["none.s"]\n' + self.FIXED, "programs.none.s: cannot read none.s"),
             (self.HEAD + '[programs]\na = "lib gate 65 1"\n' + self.FIXED, "programs.a: ultra: bad parameter"),
             (self.HEAD + self.PROGRAM, "fixed.stages: is missing"),
+            ('before = "none.s"\n' + self.HEAD + self.PROGRAM + self.FIXED, "before: cannot read none.s"),
+            ('before = "short.s"\n' + self.HEAD + self.FIXED + "[traffic]\nrate = [1]\n", "before: there are no programs"),
             (whole + "speed = 3\n", "fixed.speed: unknown key"),
             (whole + "open = 9\n", "fixed.open: must be 1 to 8"),
             (whole + "open = true\n", "fixed.open: must be 1 to 8"),
