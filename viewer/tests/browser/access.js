@@ -37,10 +37,6 @@ const LOW_CONTRAST = `(() => {
 const CUT_OFF = `[...document.querySelectorAll("body *")].filter((it) => it.getClientRects().length && !it.closest("svg, pre, .scroll, table, .hidden-text, .hidden-input"))
     .filter((it) => it.getBoundingClientRect().right > innerWidth + 0.5).map((it) => it.id || it.className || it.localName)`;
 
-async function emulate(tab, features, media = "") {
-    await tab.send("Emulation.setEmulatedMedia", { media, features: Object.entries(features).map(([name, value]) => ({ name, value })) });
-}
-
 async function checkPictures(checks, tab) {
     await checks.check("the picture as SVG has each text of the page's picture, also outside the window, and its colours", async () => {
         await tab.evaluate("viewer.setScale(viewer.app, 1.3); viewer.app.pane.drawWhole()");
@@ -58,11 +54,11 @@ async function checkPictures(checks, tab) {
         assert.equal(width, 2 * Math.round(await tab.evaluate("viewer.app.picture.layout.width")));
     });
     await checks.check("Save SVG and Save PNG give files", async () => {
-        await tab.send("Browser.setDownloadBehavior", { behavior: "allow", downloadPath: checks.folder });
+        await tab.saveInto(checks.folder);
         for (const kind of ["svg", "png"]) {
             await tab.click(`#save-${kind}`);
             const file = path.join(checks.folder, `expected_cycle_4.${kind}`);
-            for (let tries = 0; tries < 200 && !fs.existsSync(file); tries++) {
+            for (let tries = 0; tries < 200 && !(fs.existsSync(file) && fs.statSync(file).size > 1000); tries++) {
                 await new Promise((resolve) => setTimeout(resolve, 50));
             }
             assert.ok(fs.statSync(file).size > 1000, file);
@@ -72,15 +68,14 @@ async function checkPictures(checks, tab) {
         }
     });
     await checks.check("on paper the picture is whole, on one page, and no control is there", async () => {
-        const { data } = await tab.send("Page.printToPDF", { landscape: true, printBackground: true });
-        const pages = Buffer.from(data, "base64").toString("latin1").match(/\/Type \/Page\b/g);
-        assert.equal(pages.length, 1);
+        const { bytes, sheets } = await tab.paper();
+        assert.equal(sheets, 1);
         if (checks.options.pictures) {
-            fs.writeFileSync(path.join(checks.options.pictures, "print.pdf"), Buffer.from(data, "base64"));
+            fs.writeFileSync(path.join(checks.options.pictures, "print.pdf"), bytes);
         }
-        await emulate(tab, {}, "print");
+        await tab.emulate({}, "print");
         const shown = await tab.evaluate("[...document.querySelectorAll('button, input, select, aside, .strip')].filter((it) => it.getClientRects().length).map((it) => it.id)");
-        await emulate(tab, {});
+        await tab.emulate({});
         assert.deepEqual(shown, []);
     });
 }
@@ -98,7 +93,7 @@ async function checkKeys(checks, tab) {
         const other = await checks.tab(PAGE);
         assert.equal(await other.evaluate("document.querySelector('#letters').checked"), false);
         // a tab behind another draws nothing, and scrolls nothing
-        await tab.send("Page.bringToFront");
+        await tab.toFront();
         await tab.click("#letters");
         await tab.evaluate("document.activeElement.blur()");
         await tab.press("c");
@@ -160,7 +155,7 @@ module.exports = async (checks) => {
     const tab = await checks.tabWithExample("two_level_tree", "#cycle=4");
     await tab.evaluate("viewer.app.showRequest(viewer.app.history.requests[1])");
     for (const scheme of ["light", "dark"]) {
-        await emulate(tab, { "prefers-color-scheme": scheme });
+        await tab.emulate({ "prefers-color-scheme": scheme });
         await checks.check(`each text has a contrast of at least 4.5, ${scheme}`, async () => {
             for (const cycle of [4, 9]) {
                 await tab.evaluate(`viewer.app.goTo(${cycle})`);
@@ -170,7 +165,7 @@ module.exports = async (checks) => {
         });
         await checks.picture(tab, `scheme_${scheme}`);
     }
-    await emulate(tab, {});
+    await tab.emulate({});
     await tab.evaluate("viewer.app.closeStory()");
     await checkPictures(checks, tab);
     await checkKeys(checks, tab);

@@ -6,7 +6,6 @@ const fs = require("node:fs");
 const os = require("node:os");
 const path = require("node:path");
 const { pathToFileURL } = require("node:url");
-const { Tab } = require("./tab.js");
 const { FOLDER, example } = require("../support.js");
 
 const PAGE = pathToFileURL(path.join(FOLDER, "index.html")).href;
@@ -36,7 +35,7 @@ class Checks {
 
     /** A tab with the viewer opened from the disk. */
     async tab(address = PAGE, width = 1280, height = 800) {
-        const tab = await Tab.open(this.browser, width, height);
+        const tab = await this.browser.openTab(width, height);
         await tab.goTo(address);
         return tab;
     }
@@ -63,9 +62,9 @@ class Checks {
 
     /** The page complains of nothing and asks nobody for anything. */
     async checkQuiet(name, tab) {
-        await this.check(`${name}: nothing on the console, nothing from a network`, () => {
-            assert.deepEqual(tab.complaints, []);
-            assert.deepEqual(tab.addresses.filter((it) => !/^(file|data|about|blob):/.test(it)), []);
+        await this.check(`${name}: nothing on the console, nothing from a network`, async () => {
+            assert.deepEqual(await tab.said(), []);
+            assert.deepEqual((await tab.asked()).filter((it) => !/^(file|data|about|blob):/.test(it)), []);
         });
     }
 

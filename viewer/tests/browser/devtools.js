@@ -5,6 +5,7 @@ const fs = require("node:fs");
 const os = require("node:os");
 const path = require("node:path");
 const { spawn, spawnSync } = require("node:child_process");
+const { Tab } = require("./tab.js");
 
 const NAMES = [process.env.CHROMIUM, "chromium", "chromium-browser", "google-chrome"].filter(Boolean);
 const SECONDS = 60;
@@ -57,6 +58,10 @@ class Browser {
             const timer = setTimeout(() => reject(new Error(`${method}: no answer in ${SECONDS} s`)), SECONDS * 1000);
             this.waiting.set(id, { resolve, reject, method, timer });
         });
+    }
+
+    openTab(width, height) {
+        return Tab.open(this, width, height);
     }
 
     async close() {

@@ -18,7 +18,7 @@ module.exports = async (checks) => {
         await tab.enter("#traces", "two_level_tree/expected");
         assert.match(await tab.text("#facts"), /^two_level_tree\/expected: 10 cycles, 4 PEs/);
         await checks.checkQuiet("a page with traces", tab);
-        assert.deepEqual(tab.addresses.filter((it) => it.startsWith("file:")), [address]);
+        assert.deepEqual((await tab.asked()).filter((it) => it.startsWith("file:")), [address]);
     });
 
     await checks.check("a link leads to a trace and a cycle of the page", async () => {

@@ -8,19 +8,18 @@ const PLACE = `(() => { const { left, top, width, height } = document.querySelec
 module.exports = async (checks) => {
     const tab = await checks.tabWithExample("two_level_tree", "#cycle=3");
     const { left, top, width, height } = await tab.evaluate(PLACE);
-    const mouse = (type, part) =>
-        tab.send("Input.dispatchMouseEvent", { type, x: left + part * width, y: top + height / 2, button: "left", buttons: 1, clickCount: 1 });
+    const mouse = (what, part) => tab.mouse(what, left + part * width, top + height / 2);
 
     await checks.check("the strip says the numbers of the cycle, and marks it", async () => {
         assert.deepEqual(await tab.texts(".series b"), ["4", "2", "0"]);
         assert.equal(await tab.evaluate("document.querySelector('.strip-mark').style.left"), "30%");
     });
     await checks.check("a click in the strip goes to a cycle, and a drag to each that it crosses", async () => {
-        await mouse("mousePressed", 0.66);
+        await mouse("pressed", 0.66);
         assert.equal(await tab.evaluate("viewer.app.cycle"), 6);
-        await mouse("mouseMoved", 0.98);
+        await mouse("moved", 0.98);
         assert.equal(await tab.evaluate("viewer.app.cycle"), 9);
-        await mouse("mouseReleased", 0.98);
+        await mouse("released", 0.98);
         assert.deepEqual(await tab.texts(".series b"), ["0", "0", "0"]);
     });
     await checks.check("what is drawn in the strip has the colours of its rows", async () => {

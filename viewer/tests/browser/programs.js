@@ -81,7 +81,7 @@ async function playground(checks) {
         });
         await checks.check("a program that is written is run by Ctrl+Enter, with other settings", async () => {
             await tab.evaluate("viewer.playground.settings.text = 'stages = 2\\n'; viewer.playground.program.text = 'li r2 1\\nfaa r3 r0 r2\\nhalt\\n'; document.querySelector('#program').focus()");
-            await tab.send("Input.dispatchKeyEvent", { type: "keyDown", key: "Enter", modifiers: 2, windowsVirtualKeyCode: 13 });
+            await tab.press("Enter", { control: true });
             await tab.wait("/4 PEs/.test(document.querySelector('#facts').textContent)");
             assert.equal(await tab.text("#listing .marker.chosen, #listing code"), "li r2 1");
         });
@@ -94,9 +94,9 @@ async function playground(checks) {
             assert.equal(await shared.evaluate("document.querySelector('#program-box').hidden"), false);
             await checks.checkQuiet("a shared page", shared);
         });
-        await checks.check("the playground asks its own server alone", () => {
-            assert.deepEqual(tab.addresses.filter((it) => !it.startsWith(address) && !/^(about|data|blob):/.test(it)), []);
-            assert.deepEqual(tab.complaints, []);
+        await checks.check("the playground asks its own server alone", async () => {
+            assert.deepEqual((await tab.asked()).filter((it) => !it.startsWith(address) && !/^(about|data|blob):/.test(it)), []);
+            assert.deepEqual(await tab.said(), []);
         });
     } finally {
         server.kill();

@@ -48,9 +48,7 @@ async function checkCompact(checks, tab) {
         await tab.evaluate("viewer.app.goTo(4)");
         const { x, y } = await tab.evaluate(`(() => { const svg = document.querySelector("#compact-network"); const box = viewer.app.pane.compact.boxOf(viewer.placeOf(viewer.REQ, 1, 40));
             const at = new DOMPoint(box.x + box.w / 2, box.y + box.h / 2).matrixTransform(svg.getScreenCTM()); return { x: at.x, y: at.y }; })()`);
-        for (const type of ["mousePressed", "mouseReleased"]) {
-            await tab.send("Input.dispatchMouseEvent", { type, x, y, button: "left", clickCount: 1 });
-        }
+        await tab.clickAt(x, y);
         assert.equal(await tab.evaluate("viewer.app.form"), "detail");
         const isSeen = await tab.evaluate("viewer.app.picture.seen()(viewer.app.picture.layout.boxes.get(viewer.placeOf(viewer.REQ, 1, 40)))");
         assert.ok(isSeen);

@@ -1,12 +1,14 @@
-// A tab of the browser: what a person does in it, and what can be seen there.
+// A tab of Chromium: what a person does in it, and what can be seen there.
 "use strict";
 
 const fs = require("node:fs");
+const { Page } = require("./page.js");
 
 const KEYS = { ArrowRight: 39, ArrowLeft: 37, ArrowUp: 38, ArrowDown: 40, Enter: 13, Home: 36, End: 35, Escape: 27, Tab: 9, " ": 32 };
 
-class Tab {
+class Tab extends Page {
     constructor(browser, session) {
+        super();
         this.browser = browser;
         this.session = session;
         /**
@@ -68,48 +70,15 @@ class Tab {
         return result.value;
     }
 
-    /** Waits until an expression holds. */
-    async wait(expression, seconds = 30) {
-        const until = Date.now() + seconds * 1000;
-        while (!(await this.evaluate(`Boolean(${expression})`))) {
-            if (Date.now() > until) {
-                throw new Error(`in ${seconds} s it didn't become true: ${expression}`);
-            }
-            await new Promise((resolve) => setTimeout(resolve, 20));
-        }
+    /** The mouse, with its left button, at a place of the page: pressed, moved or released. */
+    mouse(what, x, y) {
+        const type = { pressed: "mousePressed", moved: "mouseMoved", released: "mouseReleased" }[what];
+        return this.send("Input.dispatchMouseEvent", { type, x, y, button: "left", buttons: 1, clickCount: 1 });
     }
 
-    text(selector) {
-        return this.evaluate(`document.querySelector(${JSON.stringify(selector)}).textContent`);
-    }
-
-    texts(selector) {
-        return this.evaluate(`[...document.querySelectorAll(${JSON.stringify(selector)})].map((it) => it.textContent)`);
-    }
-
-    /** Clicks in the middle of the first element that the expression finds. */
-    async clickOn(expression) {
-        const { x, y } = await this.evaluate(
-            `(() => { const it = ${expression}; it.scrollIntoView({ block: "center", inline: "center" });
-            const { left, top, width, height } = it.getBoundingClientRect(); return { x: left + width / 2, y: top + height / 2 }; })()`,
-        );
-        for (const type of ["mousePressed", "mouseReleased"]) {
-            await this.send("Input.dispatchMouseEvent", { type, x, y, button: "left", clickCount: 1 });
-        }
-    }
-
-    click(selector) {
-        return this.clickOn(`document.querySelector(${JSON.stringify(selector)})`);
-    }
-
-    /** Sets a field or a choice to a value. */
-    enter(selector, value, event = "change") {
-        return this.evaluate(`{ const it = document.querySelector(${JSON.stringify(selector)}); it.value = ${JSON.stringify(value)}; it.dispatchEvent(new Event("${event}")); }`);
-    }
-
-    async press(key, shift = false) {
-        const text = key.length === 1 ? { text: key } : {};
-        const params = { key, modifiers: shift ? 8 : 0, windowsVirtualKeyCode: KEYS[key] ?? key.toUpperCase().charCodeAt(0) };
+    async press(key, { shift = false, control = false } = {}) {
+        const text = key.length === 1 && !control ? { text: key } : {};
+        const params = { key, modifiers: (shift ? 8 : 0) + (control ? 2 : 0), windowsVirtualKeyCode: KEYS[key] ?? key.toUpperCase().charCodeAt(0) };
         await this.send("Input.dispatchKeyEvent", { type: "keyDown", ...params, ...text });
         await this.send("Input.dispatchKeyEvent", { type: "keyUp", ...params });
     }
@@ -139,13 +108,41 @@ class Tab {
         return 1000 * ((await time()) - before);
     }
 
-    /**
-     * The milliseconds by the clock that an expression takes, with the layout of what follows from
-     * it.
-     */
-    time(expression) {
-        const layout = "document.body.getBoundingClientRect()";
-        return this.evaluate(`{ const start = performance.now(); ${expression}; ${layout}; performance.now() - start; }`);
+    /** Has the page think that the system, or the medium, is another one. */
+    emulate(features, media = "") {
+        return this.send("Emulation.setEmulatedMedia", { media, features: Object.entries(features).map(([name, value]) => ({ name, value })) });
+    }
+
+    saveInto(folder) {
+        return this.send("Browser.setDownloadBehavior", { behavior: "allow", downloadPath: folder });
+    }
+
+    toFront() {
+        return this.send("Page.bringToFront");
+    }
+
+    /** The page on paper, and the number of its sheets. */
+    async paper() {
+        const { data } = await this.send("Page.printToPDF", { landscape: true, printBackground: true });
+        const bytes = Buffer.from(data, "base64");
+        return { bytes, sheets: bytes.toString("latin1").match(/\/Type \/Page\b/g).length };
+    }
+
+    /** The controls of these roles that a reader of the page by ear has, with their names. */
+    async controls(roles) {
+        const { nodes } = await this.send("Accessibility.getFullAXTree");
+        const found = nodes.filter((it) => !it.ignored && roles.includes(it.role?.value));
+        return found.map((it) => ({ role: it.role.value, name: it.name?.value ?? "" }));
+    }
+
+    /** What the page wrote to its console, with its errors. */
+    async said() {
+        return this.complaints;
+    }
+
+    /** The addresses that the page asked for. */
+    async asked() {
+        return this.addresses;
     }
 
     async screenshot(file) {
