@@ -1,43 +1,64 @@
-// A large trace: how long it takes to open, and to step in it.
+// A large trace, by itself and with its steps: how long it takes to open, and to step in it in each form.
 "use strict";
 
 const assert = require("node:assert/strict");
 
 const STEPS = 40;
+const MOST_OF_STEP = 60;
+const FORMS = ["detail", "folded", "compact"];
+
+const seconds = (since) => ((Date.now() - since) / 1000).toFixed(1);
+
+/** Measures steps to cycles that are spread over the trace: their middle and their greatest cost. */
+async function checkSteps(checks, tab, name, measure) {
+    const count = await tab.evaluate("viewer.app.trace.count");
+    await checks.check(`steps anywhere in it, ${name}`, async () => {
+        const times = [];
+        for (let step = 0; step < STEPS; step++) {
+            times.push(await measure(`viewer.app.goTo(${Math.floor((step * count) / STEPS)})`));
+        }
+        times.sort((a, b) => a - b);
+        const [middle, most] = [times[STEPS >> 1], times.at(-1)];
+        console.log(`${name}: a step takes ${middle.toFixed(0)} ms, at most ${most.toFixed(0)} ms`);
+        assert.ok(middle <= MOST_OF_STEP, `${middle} ms`);
+    });
+}
+
+async function checkForms(checks, tab, name) {
+    for (const form of FORMS) {
+        await tab.evaluate(`viewer.app.changeForm("${form}")`);
+        await checkSteps(checks, tab, `${name}, ${form}, in processor time`, (act) => tab.cost(act));
+        await checks.picture(tab, `large_${form}`);
+    }
+}
 
 module.exports = async (checks) => {
-    const file = checks.options.large;
-    if (!file) {
+    const files = checks.options.large;
+    if (!files) {
         return;
     }
     const tab = await checks.tab();
     await checks.check("a large trace opens within 10 seconds", async () => {
         const start = Date.now();
-        await tab.choose(file);
+        await tab.choose(files[0]);
         await tab.wait("viewer.app.trace", 60);
-        const seconds = (Date.now() - start) / 1000;
         const megabytes = (await tab.evaluate("viewer.app.trace.bytes.length")) / 1e6;
-        console.log(`${megabytes.toFixed(0)} MB: opened in ${seconds.toFixed(1)} s, ${await tab.evaluate("viewer.app.trace.count")} cycles`);
-        assert.ok(seconds < 10, `${seconds} s`);
+        console.log(`${megabytes.toFixed(0)} MB: opened in ${seconds(start)} s, ${await tab.evaluate("viewer.app.trace.count")} cycles`);
+        assert.ok(seconds(start) < 10);
     });
-    const count = await tab.evaluate("viewer.app.trace.count");
     await tab.evaluate("viewer.app.hasMotion = false");
-    const cycles = Array.from({ length: STEPS }, (_, step) => Math.floor((step * count) / STEPS));
-    const checkSteps = (name, measure) =>
-        checks.check(`steps anywhere in it, ${name}`, async () => {
-            const times = [];
-            for (const cycle of cycles) {
-                times.push(await measure(`viewer.app.goTo(${cycle})`));
-            }
-            times.sort((a, b) => a - b);
-            const [middle, most] = [times[STEPS >> 1], times.at(-1)];
-            console.log(`${name}: a step takes ${middle.toFixed(0)} ms, at most ${most.toFixed(0)} ms`);
-            assert.ok(middle < 50, `${middle} ms`);
-        });
-    await checkSteps("by the clock, while its history is worked out", (act) => tab.time(act));
+    await checkSteps(checks, tab, "by the clock, while its history is worked out", (act) => tab.time(act));
     const start = Date.now();
     await tab.wait("viewer.app.history.isDone", 300);
-    console.log(`its history was done after ${((Date.now() - start) / 1000).toFixed(1)} s more`);
-    await checkSteps("in processor time, when its history is done", (act) => tab.cost(act));
+    console.log(`its history was done after ${seconds(start)} s more`);
+    await checkForms(checks, tab, "its history is done");
+    if (files.length > 1) {
+        const since = Date.now();
+        await tab.choose(files);
+        await tab.wait("viewer.app.open?.execution?.steps", 300);
+        console.log(`with what belongs to it: opened in ${seconds(since)} s`);
+        await tab.evaluate("viewer.app.hasMotion = false");
+        await checkForms(checks, tab, "with its steps");
+    }
     await checks.checkQuiet("a large trace", tab);
 };
