@@ -24,14 +24,17 @@
             this.program = null;
             this.steps = null;
             this.settings = null;
+            this.knownListing = null;
         }
 
         /** Takes a text. Throws a Fault where it isn't of its sort, or doesn't belong to the trace. */
         take(sort, text) {
+            this.knownListing = null;
             if (sort === "steps") {
                 const steps = new Steps(text);
                 this.check(steps, this.program);
                 this.steps = steps;
+                this.history.takeNumbers(steps);
                 const { first, count, net } = this.trace;
                 this.history.overview.stalled = steps.stalledIn(first, count, net.size);
             } else if (sort === "program") {
@@ -88,10 +91,14 @@
             if (!program) {
                 return;
             }
-            for (const [pe, { steps: list }] of steps.pes) {
-                for (const { cycle, place, instruction } of list) {
-                    const text = program.instructions[place]?.text ?? "end";
-                    if (text !== instruction) {
+            const numbers = program.instructions.map((it) => steps.numbers.get(it.text));
+            const end = steps.numbers.get("end");
+            for (const [pe, list] of steps.pes) {
+                for (let index = 0; index < list.count; index++) {
+                    const place = list.places.at(index);
+                    if (list.texts.at(index) !== (place < numbers.length ? numbers[place] : end)) {
+                        const { cycle, instruction } = list.step(index);
+                        const text = program.instructions[place]?.text ?? "end";
                         misfit(`in cycle ${cycle} PE ${pe} executes '${instruction}' at ${place}, where the program has '${text}'`);
                     }
                 }
@@ -100,14 +107,10 @@
 
         /** The instructions by their places: those of the program, or those that the steps name. */
         get listing() {
-            if (this.program) {
-                return this.program.instructions.map(({ text, line }, place) => ({ place, line, text: this.program.lines[line - 1], canonical: text }));
-            }
-            const found = new Map();
-            for (const { steps } of this.steps?.pes.values() ?? []) {
-                steps.filter((it) => it.instruction !== "end").forEach((it) => found.set(it.place, it.instruction));
-            }
-            return [...found].sort((a, b) => a[0] - b[0]).map(([place, text]) => ({ place, line: null, text, canonical: text }));
+            this.knownListing ??= this.program
+                ? this.program.instructions.map(({ text, line }, place) => ({ place, line, text: this.program.lines[line - 1], canonical: text }))
+                : (this.steps?.listing ?? []).map(({ place, text }) => ({ place, line: null, text, canonical: text }));
+            return this.knownListing;
         }
 
         /** The open requests of a PE as it steps in a cycle. */
@@ -140,14 +143,19 @@
             const instruction = next?.instruction ?? this.program?.instructions[place]?.text ?? "";
             const open = this.openOf(pe, cycle);
             const named = registersOf(instruction);
-            const steps = this.steps.of(pe).steps.filter((it) => it.cycle < cycle && it.cell !== null);
-            const targets = new Map(steps.filter((it) => !it.instruction.startsWith("st ")).map((it) => [`${it.cell} ${it.cycle}`, registersOf(it.instruction)[0]]));
-            const awaited = open.filter((it) => named.includes(targets.get(`${it.cell} ${it.issued}`)));
+            const awaited = open.filter((it) => named.includes(this.targetOf(pe, it)));
             if (awaited.length > 0) {
                 return awaited.map((it) => it.cell);
             }
             const isSame = MEMORY.includes(instruction.split(" ")[0]) && open.some((it) => it.cell === next?.cell);
             return isSame ? [next.cell] : open.map((it) => it.cell);
+        }
+
+        /** The register that an open request of a PE will set, or undefined. */
+        targetOf(pe, { cell, issued }) {
+            const { last } = this.steps.of(pe).around(issued);
+            const isIts = last?.cycle === issued && last.cell === cell && !last.instruction.startsWith("st ");
+            return isIts ? registersOf(last.instruction)[0] : undefined;
         }
 
         /** The registers of a PE after a cycle: unknown ones have the value null. */

@@ -60,6 +60,8 @@
             this.trees = new Map();
             /** The request of each open cell of a PE. */
             this.open = new Map();
+            /** The steps of the PEs, where they name the requests of a part. */
+            this.steps = null;
         }
 
         get isDone() {
@@ -117,13 +119,26 @@
             });
         }
 
-        /** A request in a part that begins later has no number: how many came before isn't known. */
-        numberOf(pe) {
-            return this.trace.first > 0 ? null : this.requestsOfPe[pe].length;
+        /**
+         * The number of a request that is issued now. In a part that begins later it is known by the
+         * steps of its PE, else it is null: how many came before isn't known.
+         */
+        numberOf(pe, cell, cycle) {
+            return this.trace.first > 0 ? (this.steps?.of(pe).issuedAt(cycle, cell) ?? null) : this.requestsOfPe[pe].length;
+        }
+
+        /** Takes the numbers of requests from steps, where the trace begins later and doesn't give them. */
+        takeNumbers(steps) {
+            if (this.trace.first > 0) {
+                this.steps = steps;
+                this.requests.forEach((it) => {
+                    it.number ??= steps.of(it.pe).issuedAt(it.issued, it.cell) ?? steps.of(it.pe).answeredAt(it.answered ?? -1, it.cell);
+                });
+            }
         }
 
         issue({ pe, cell, kind, word }, cycle) {
-            const number = this.numberOf(pe);
+            const number = this.numberOf(pe, cell, cycle);
             const later = { parent: null, act: null, answered: null, value: null };
             const request = { pe, number, cell, kind, word, issued: cycle, ...later };
             this.add(request);
@@ -180,6 +195,7 @@
             const request = this.open.get(identityOf(reply));
             request.answered = cycle;
             request.value = reply.value;
+            request.number ??= this.steps?.of(reply.pe).answeredAt(cycle, reply.cell) ?? null;
             this.open.delete(identityOf(reply));
         }
 

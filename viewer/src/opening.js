@@ -136,8 +136,8 @@
         return trace !== first || (beside ?? undefined) !== second;
     }
 
-    function followAddress(app, traces) {
-        const address = viewer.readAddress(location.hash);
+    function followAddress(app, traces, hash) {
+        const address = viewer.readAddress(hash);
         if (traces.length > 0 && (!app.open || (address.trace && isOther(app, address)))) {
             openListed(app, traces, address.trace, address);
         } else if (app.open) {
@@ -151,6 +151,7 @@
     Object.assign(viewer, { app });
     connectFiles(app);
     connectList(app, traces);
-    addEventListener("hashchange", () => followAddress(app, traces));
-    followAddress(app, traces);
+    // by now the page may have written another address, of what it showed before
+    addEventListener("hashchange", (event) => followAddress(app, traces, new URL(event.newURL).hash));
+    followAddress(app, traces, location.hash);
 })((globalThis.viewer ??= {}));

@@ -5,28 +5,48 @@
     const { html } = viewer;
     const MOST_MARKERS = 12;
 
-    /** The PEs that are at a place, as a marker of the line. */
-    function markerOf(pes, chosen) {
+    /** The PEs that are at a place, as the marker of the line says them. */
+    function markerText(pes) {
         const numbers = pes.slice(0, MOST_MARKERS).join(" ") + (pes.length > MOST_MARKERS ? ` and ${pes.length - MOST_MARKERS} more` : "");
-        const classes = pes.includes(chosen) ? "marker chosen" : "marker";
-        return pes.length > 0 ? html("span", { class: classes }, `PE ${numbers}`) : null;
+        return pes.length > 0 ? `PE ${numbers}` : "";
+    }
+
+    /** The PEs by the place where they are. */
+    function pesByPlace(execution, cycle) {
+        const found = new Map();
+        for (let pe = 0; execution.steps && pe < execution.trace.net.size; pe++) {
+            const place = execution.placeOf(pe, cycle);
+            found.set(place, [...(found.get(place) ?? []), pe]);
+        }
+        return found;
+    }
+
+    /** The rows of a listing, which are made once; from cycle to cycle only their markers change. */
+    function rowsOf(element, listing) {
+        if (element.listing !== listing) {
+            const rows = listing.map(({ place, text }) => {
+                const marker = html("td", {});
+                return { place, marker, said: "", element: html("tr", {}, html("td", {}, `${place}`), marker, html("td", {}, html("code", {}, text))) };
+            });
+            element.replaceChildren(html("table", { class: "listing" }, html("tbody", {}, ...rows.map((it) => it.element))));
+            Object.assign(element, { listing, listingRows: rows });
+        }
+        return element.listingRows;
     }
 
     /** The listing, each instruction with its place and the PEs that are there. */
     function listingPanel(element, execution, cycle, chosen) {
-        const byPlace = new Map();
-        if (execution.steps) {
-            for (let pe = 0; pe < execution.trace.net.size; pe++) {
-                const place = execution.placeOf(pe, cycle);
-                byPlace.set(place, [...(byPlace.get(place) ?? []), pe]);
+        const byPlace = pesByPlace(execution, cycle);
+        for (const row of rowsOf(element, execution.listing)) {
+            const pes = byPlace.get(row.place) ?? [];
+            const classes = pes.includes(chosen) ? "marker chosen" : "marker";
+            const said = pes.length > 0 ? `${classes} ${markerText(pes)}` : "";
+            if (said !== row.said) {
+                row.said = said;
+                row.marker.replaceChildren(...(said ? [html("span", { class: classes }, markerText(pes))] : []));
+                row.element.className = pes.includes(chosen) ? "now" : "";
             }
         }
-        const rows = execution.listing.map(({ place, text }) => {
-            const pes = byPlace.get(place) ?? [];
-            const attributes = pes.includes(chosen) ? { class: "now" } : {};
-            return html("tr", attributes, html("td", {}, `${place}`), html("td", {}, markerOf(pes, chosen)), html("td", {}, html("code", {}, text)));
-        });
-        element.replaceChildren(html("table", { class: "listing" }, html("tbody", {}, ...rows)));
     }
 
     function stateText({ state, place, cells }) {

@@ -4,7 +4,7 @@
 const test = require("node:test");
 const assert = require("node:assert/strict");
 const { viewer, example, exampleTraces, textOf, traceOf, historyOf, bytesOf } = require("./support.js");
-const { PARTS, EVENTS_ALONE, NO_CYCLE } = require("./reference_texts.js");
+const { PARTS, EVENTS_ALONE, NO_CYCLE, STEPS } = require("./reference_texts.js");
 
 /** The part of a trace with these cycles, as `run --from A --to B` writes it. */
 function partOf(text, from, to) {
@@ -93,6 +93,25 @@ test("the stories and sentences of a part say what isn't known", () => {
     assert.match(said[0], /^This part begins with this cycle/);
     assert.match(said[1], /^Module 0 serves 2@0 faa 10/);
     assert.equal(viewer.movesText(null), "What moved isn't known.");
+});
+
+test("the requests of a part have no number, but for those that the steps of their PE name", () => {
+    const names = (history) => history.requests.map((it) => viewer.nameOf(it));
+    const text = partOf(textOf(example("open_cell_stall"), "expected"), 5, 10);
+    const whole = historyOf(text);
+    assert.deepEqual(names(whole), ["0.?", "0.?"]);
+    const steps = STEPS.open_cell_stall.split("\n").filter((it) => !/^[0-4] /.test(it)).join("\n");
+    new viewer.Execution(whole).take("steps", steps);
+    // the first by its reply in cycle 8, the second by its issue
+    assert.deepEqual(names(whole), ["0.0", "0.1"]);
+    const begun = new viewer.History(traceOf(text));
+    begun.advance(2);
+    new viewer.Execution(begun).take("steps", steps);
+    begun.advance(Infinity);
+    assert.deepEqual(names(begun), ["0.0", "0.1"]);
+    const end = historyOf(partOf(textOf(example("open_cell_stall"), "expected"), 5, 6));
+    new viewer.Execution(end).take("steps", steps);
+    assert.deepEqual(names(end), ["0.?"]);
 });
 
 test("a part without states or without a cycle is refused in its own words", () => {

@@ -107,6 +107,7 @@ test("texts that don't belong to a trace, or aren't what they seem, say why", ()
     assert.equal(refuse(good.replace("step 1 0", "step 7 0")), "misfit: they have a PE 7, and the trace has 2");
     assert.match(refuse(good.replace("1 step 0 1", "1 stop 0 1")), /^3: 'CYCLE step PE/);
     assert.match(refuse(good.replace("13 reply", "3 reply")), /^11: cycles that grow/);
+    assert.match(refuse(good.replace("8 reply 0 r3=0", "8 reply 0 r16=0")), /^8: a register below 16/);
     assert.match(refuse(good.slice(0, -3)), /the end of the line/);
     const execution = executionOf("open_cell_stall");
     assert.match(reasonOf(() => execution.take("settings", "stages = 2\n")), /^misfit: they have 2 stages, and the trace has 1/);

@@ -37,6 +37,65 @@ const LOW_CONTRAST = `(() => {
 const CUT_OFF = `[...document.querySelectorAll("body *")].filter((it) => it.getClientRects().length && !it.closest("svg, pre, .scroll, table, .hidden-text, .hidden-input"))
     .filter((it) => it.getBoundingClientRect().right > innerWidth + 0.5).map((it) => it.id || it.className || it.localName)`;
 
+/** What breaks a rule for readers by ear, by keyboard or with an unsteady hand; each rule names the elements. */
+const BROKEN_RULES = `(() => {
+    const all = (selector) => [...document.querySelectorAll(selector)];
+    const isShown = (it) => it.getClientRects().length > 0 && !it.closest("[aria-hidden=true]") && !it.closest(".hidden-text, .hidden-input");
+    const nameOf = (it) => it.id || (it.className.baseVal ?? it.className) || it.localName;
+    const levels = all("h1, h2, h3, h4, h5, h6").filter(isShown).map((it) => Number(it.localName[1]));
+    const ids = all("[id]").map((it) => it.id);
+    const references = ["for", "aria-labelledby", "aria-describedby", "aria-controls", "aria-owns"];
+    const isNamed = (it) => it.getAttribute("aria-label")?.trim() || it.getAttribute("aria-labelledby") || it.querySelector(":scope > title");
+    const isLarge = (it) => { const { width, height } = it.getBoundingClientRect(); return width >= 24 && height >= 24; };
+    const found = {
+        "the page has a language and a title": document.documentElement.lang && document.title ? [] : ["html"],
+        "levels of headings begin with 1 and leave none out": levels.filter((it, at) => it > (levels[at - 1] ?? 0) + 1),
+        "ids are unique": ids.filter((it, at) => ids.indexOf(it) < at),
+        "what is referred to is there": references.flatMap((name) => all("[" + name + "]").flatMap((it) => it.getAttribute(name).split(" ")).filter((id) => !ids.includes(id))),
+        "pictures are named, or hidden": all("svg, canvas, img, [role=img]").filter((it) => isShown(it) && !it.parentElement.closest("svg") && !isNamed(it)).map(nameOf),
+        "tables have heads, or say that they only arrange": all("table").filter((it) => isShown(it) && !it.querySelector("th") && !["presentation", "none"].includes(it.getAttribute("role"))).map(nameOf),
+        "the main part is one, and all shown text is in a landmark": all("main").length === 1 ? [] : ["main"],
+        // a link in a sentence has the height of its line
+        "buttons, fields and choices are at least 24 pixels wide and high": all("button:not(.link), select, input, summary").filter((it) => isShown(it) && !isLarge(it.closest("label") ?? it)).map(nameOf),
+        "no order of its own for Tab": all("[tabindex]").filter((it) => it.tabIndex > 0).map(nameOf),
+    };
+    return Object.entries(found).filter(([, broken]) => broken.length > 0).map(([rule, broken]) => rule + ": " + broken.slice(0, 5).join(", "));
+})()`;
+
+/** The elements that Tab reaches, of which those are marked that look the same with and without the focus. */
+async function reached(tab, most) {
+    await tab.evaluate("document.activeElement.blur()");
+    const found = [];
+    for (let count = 0; count < most; count++) {
+        await tab.press("Tab");
+        const it = await tab.evaluate(`(() => { const it = document.activeElement; if (it === document.body) return null;
+            const looks = () => { const { outlineStyle, outlineWidth, boxShadow, borderColor } = getComputedStyle(it); return [outlineStyle === "none" ? "" : outlineWidth, boxShadow, borderColor].join(); };
+            const focused = looks(); it.blur(); const plain = looks(); it.focus({ focusVisible: true }); return { name: it.id || it.textContent.trim().slice(0, 20), isSeen: focused !== plain }; })()`);
+        if (it === null) {
+            break;
+        }
+        found.push(it);
+    }
+    return found;
+}
+
+async function checkRules(checks, tab) {
+    await checks.check("no rule for readers by ear or keyboard is broken", async () => {
+        for (const set of ["goTo(4)", "goTo(9)", "changeForm('compact')", "changeForm('folded')", "changeForm('detail')", "showAct(viewer.app.history.acts[0])"]) {
+            await tab.evaluate(`viewer.app.${set}`);
+            assert.deepEqual(await tab.evaluate(BROKEN_RULES), [], set);
+        }
+    });
+    await tab.evaluate("viewer.app.closeStory(); viewer.app.changeForm('detail'); viewer.app.goTo(4)");
+    await checks.check("Tab reaches each control, and one sees where it is", async () => {
+        const found = await reached(tab, 60);
+        for (const id of ["forward", "play", "slider", "cycle", "scroller", "save-svg"]) {
+            assert.ok(found.some((it) => it.name === id), `${id} isn't reached: ${found.map((it) => it.name).join(", ")}`);
+        }
+        assert.deepEqual(found.filter((it) => !it.isSeen).map((it) => it.name), []);
+    });
+}
+
 async function checkPictures(checks, tab) {
     await checks.check("the picture as SVG has each text of the page's picture, also outside the window, and its colours", async () => {
         await tab.evaluate("viewer.setScale(viewer.app, 1.3); viewer.app.pane.drawWhole()");
@@ -122,6 +181,7 @@ async function checkKeys(checks, tab) {
         ]);
         await tab.evaluate("[...document.querySelectorAll('#entries button')].find((it) => it.textContent === '1@0').focus()");
         await tab.press("Enter");
+        await tab.wait("!document.querySelector('#story').hidden");
         assert.equal(await tab.text("#story h2"), "Request 1.0");
         await tab.press("Escape");
     });
@@ -142,6 +202,10 @@ async function checkLinks(checks, tab) {
             await tab.press("ArrowRight");
             assert.equal(await tab.evaluate("document.querySelector('#notice').hidden"), true);
         }
+    });
+    await checks.check("a link is followed also where the page writes its address just then", async () => {
+        await tab.evaluate("location.hash = '#cycle=7'; history.replaceState(null, '', '#cycle=1'); new Promise((it) => setTimeout(it, 300))");
+        assert.equal(await tab.evaluate("viewer.app.cycle"), 7);
     });
     await checks.check("nothing of the end is cut", async () => {
         await tab.evaluate("document.activeElement.blur()");
@@ -167,6 +231,7 @@ module.exports = async (checks) => {
     }
     await tab.emulate({});
     await tab.evaluate("viewer.app.closeStory()");
+    await checkRules(checks, tab);
     await checkPictures(checks, tab);
     await checkKeys(checks, tab);
     await checkLinks(checks, tab);

