@@ -31,7 +31,7 @@
         take(sort, text) {
             this.knownListing = null;
             if (sort === "steps") {
-                const steps = new Steps(text);
+                const steps = new Steps(text, this.trace.first > 0);
                 this.check(steps, this.program);
                 this.steps = steps;
                 this.history.takeNumbers(steps);
@@ -56,19 +56,37 @@
 
         check(steps, program) {
             if (steps) {
-                this.checkRegisters(steps);
+                this.checkNumbers(steps);
+                this.checkIssues(steps);
+                // steps of a part that ends before the run say nothing of its end
+                if (this.trace.isToEnd || steps.last > this.trace.last) {
+                    this.checkRegisters(steps);
+                }
                 this.checkPlaces(steps, program);
+            }
+        }
+
+        checkNumbers(steps) {
+            for (const pe of steps.pes.keys()) {
+                if (pe >= this.trace.net.size) {
+                    misfit(`they have a PE ${pe}, and the trace has ${this.trace.net.size}`);
+                }
+            }
+        }
+
+        /** The requests of a part that are known by now have their steps, in the cycles that both have. */
+        checkIssues(steps) {
+            for (const { pe, cell, issued } of this.trace.first > 0 ? this.history.requests : []) {
+                const isCovered = issued > this.trace.first && issued >= steps.first && issued <= steps.last;
+                if (isCovered && steps.of(pe).issuedAt(issued, cell) === null) {
+                    misfit(`PE ${pe} issues a request to cell ${cell} in cycle ${issued} of the trace, and not by them`);
+                }
             }
         }
 
         /** The steps have to give the registers and the states of the trace's end. */
         checkRegisters(steps) {
             const pes = this.trace.end?.pes ?? [];
-            for (const pe of steps.pes.keys()) {
-                if (pe >= this.trace.net.size) {
-                    misfit(`they have a PE ${pe}, and the trace has ${this.trace.net.size}`);
-                }
-            }
             for (const { pe, state, registers } of pes) {
                 const found = steps.of(pe).registersAt(Infinity);
                 const values = new Map(registers.map((it) => [it.register, it.value]));

@@ -25,10 +25,12 @@
     function rowsOf(element, listing) {
         if (element.listing !== listing) {
             const rows = listing.map(({ place, text }) => {
-                const marker = html("td", {});
-                return { place, marker, said: "", element: html("tr", {}, html("td", {}, `${place}`), marker, html("td", {}, html("code", {}, text))) };
+                const marker = html("span", {});
+                const cells = [[`${place}`], [marker], [html("code", {}, text)]].map((it) => html("td", {}, ...it));
+                return { place, marker, said: "", element: html("tr", {}, ...cells) };
             });
-            element.replaceChildren(html("table", { class: "listing" }, html("tbody", {}, ...rows.map((it) => it.element))));
+            const columns = html("colgroup", {}, ...["place", "at", "text"].map((it) => html("col", { class: it })));
+            element.replaceChildren(html("table", { class: "listing" }, columns, html("tbody", {}, ...rows.map((it) => it.element))));
             Object.assign(element, { listing, listingRows: rows });
         }
         return element.listingRows;
@@ -40,10 +42,12 @@
         for (const row of rowsOf(element, execution.listing)) {
             const pes = byPlace.get(row.place) ?? [];
             const classes = pes.includes(chosen) ? "marker chosen" : "marker";
-            const said = pes.length > 0 ? `${classes} ${markerText(pes)}` : "";
+            const text = markerText(pes);
+            const said = `${classes} ${text}`;
             if (said !== row.said) {
                 row.said = said;
-                row.marker.replaceChildren(...(said ? [html("span", { class: classes }, markerText(pes))] : []));
+                row.marker.textContent = text;
+                row.marker.className = text ? classes : "";
                 row.element.className = pes.includes(chosen) ? "now" : "";
             }
         }

@@ -169,12 +169,14 @@
 
     /** The steps of all PEs. Throws a Fault with its line where the text isn't one of steps. */
     class Steps {
-        constructor(text) {
+        /** `isOfPart` says that they may be those of a part of a run, also where there are none. */
+        constructor(text, isOfPart = false) {
+            this.isOfPart = isOfPart;
             this.pes = new Map();
             this.first = null;
+            this.last = 0;
             this.instructions = [];
             this.numbers = new Map();
-            let last = 0;
             let line = 0;
             for (let at = 0; at < text.length; ) {
                 const end = text.indexOf("\n", at);
@@ -183,11 +185,11 @@
                     fail(line, "the end of the line");
                 }
                 const cycle = this.readLine(text.slice(at, end), line);
-                if (cycle < last) {
+                if (cycle < this.last) {
                     fail(line, "cycles that grow");
                 }
                 this.first ??= cycle;
-                last = cycle;
+                this.last = cycle;
                 at = end + 1;
             }
         }
@@ -229,7 +231,7 @@
 
         /** Whether the steps begin with the run, so that registers that weren't set are 0. */
         get isWhole() {
-            return this.first === 0 || this.first === null;
+            return this.first === 0 || (this.first === null && !this.isOfPart);
         }
 
         /** The instructions that PEs execute, each with its place. */

@@ -114,6 +114,22 @@ test("the requests of a part have no number, but for those that the steps of the
     assert.deepEqual(names(end), ["0.?"]);
 });
 
+test("steps of a part say nothing of the run's end, but have to issue what the part issues", () => {
+    const part = () => new viewer.Execution(historyOf(partOf(textOf(example("open_cell_stall"), "expected"), 5, 8)));
+    const steps = "8 reply 0 r3=0 0.0@0\n8 step 0 4 faa r4 r0 r2 0.1@0 faa 1\n";
+    const execution = part();
+    execution.take("steps", steps);
+    assert.deepEqual(execution.history.requests.map((it) => viewer.nameOf(it)), ["0.0", "0.1"]);
+    assert.deepEqual([execution.registersAt(0, 8)[3].value, execution.registersAt(0, 8)[4].value], [0, null]);
+    assert.throws(() => part().take("steps", steps.replace("0.1@0", "0.1@1")), { expected: "PE 0 issues a request to cell 0 in cycle 8 of the trace, and not by them" });
+    // a part in which no PE steps says nothing of registers either
+    const quiet = new viewer.Execution(historyOf(partOf(textOf(example("open_cell_stall"), "expected"), 10, 12)));
+    quiet.take("steps", "");
+    assert.equal(quiet.registersAt(0, 10)[3].value, null);
+    // those that go on to the end of the run have to give its registers
+    assert.throws(() => part().take("steps", `${steps}9 step 0 5 halt\n13 reply 0 r4=2 0.1@0\n`), { expected: "by them r4 of PE 0 is 2, and at the end of the trace it is 1" });
+});
+
 test("a part without states or without a cycle is refused in its own words", () => {
     const faultOf = (text) => {
         try {

@@ -9,7 +9,7 @@
 // requests, trees, orders, the numbers of the overview, the values of cells, registers and states of
 // PEs cycle by cycle, and three parts of the trace. All expected values are read here, by this
 // script's rules. With --fault it plants a fault into the viewer, and has to find it: `overview`,
-// `steps` or `part`. The last line is 'N traces, M comparisons, K differ'.
+// `steps`, `names` or `part`. The last line is 'N traces, M comparisons, K differ'.
 "use strict";
 
 const fs = require("node:fs");
@@ -137,6 +137,23 @@ function checkPart(name, text) {
     }
 }
 
+/** With the steps of a part its requests have the numbers of the run, all that are issued in it after its first cycle. */
+function checkNames(name, text, steps, requests) {
+    const history = new viewer.History(new viewer.Trace(new TextEncoder().encode(text)));
+    history.advance(Infinity);
+    try {
+        new viewer.Execution(history).take("steps", steps);
+    } catch (fault) {
+        same(`${name}: steps`, fault.expected, null);
+        return;
+    }
+    for (const it of history.requests) {
+        const isIts = ([pe, , , cell, , issued, answered]) => pe === it.pe && cell === it.cell && (it.isBefore ? issued <= history.trace.first && (answered ?? Infinity) > history.trace.first && answered === it.answered : issued === it.issued);
+        const found = requests.filter(isIts);
+        same(`${name}: the number of the request of PE ${it.pe} to cell ${it.cell} of cycle ${it.issued}`, it.number ?? (it.isBefore ? found[0]?.[1] : null), found[0]?.[1]);
+    }
+}
+
 /** Faults that are planted into the viewer, each of which this script has to find. */
 const PLANTED = {
     overview: () => {
@@ -150,6 +167,13 @@ const PLANTED = {
         viewer.Execution.prototype.registersAt = function (pe, cycle) {
             return registersAt.call(this, pe, Math.max(0, cycle - 1));
         };
+    },
+    names: () => {
+        const { numberOf } = viewer.History.prototype;
+        viewer.History.prototype.numberOf = function (pe, cell, cycle) {
+            return numberOf.call(this, pe, cell, cycle) ?? 0;
+        };
+        viewer.History.prototype.takeNumbers = () => {};
     },
     part: () => {
         Object.defineProperty(viewer.Trace.prototype, "isToEnd", { get: () => true });
@@ -173,7 +197,10 @@ function tryRun(name, conf, prog) {
         const from = Math.floor((part * blocks.size) / 5) + 1;
         const to = from + Math.floor((part * blocks.size) / 4);
         if (from < blocks.size) {
-            checkPart(`${name}, part ${from} to ${to}`, ultra("run", conf, prog, "--from", `${from}`, "--to", `${to}`));
+            const window = ["--from", `${from}`, "--to", `${to}`];
+            const text = ultra("run", conf, prog, ...window);
+            checkPart(`${name}, part ${from} to ${to}`, text);
+            checkNames(`${name}, part ${from} to ${to}`, text, ultra("steps", conf, prog, ...window), requests);
         }
     }
 }
