@@ -72,6 +72,8 @@ class Checks {
         if (this.options.pictures) {
             fs.mkdirSync(this.options.pictures, { recursive: true });
             await tab.evaluate("new Promise((it) => setTimeout(it, 400))");
+            // what comes into sight is drawn with the next frame, which a large picture may delay
+            await tab.evaluate("Promise.race([new Promise((it) => requestAnimationFrame(() => requestAnimationFrame(it))), new Promise((it) => setTimeout(it, 40_000))])");
             await tab.screenshot(path.join(this.options.pictures, `${name}.png`));
         }
     }

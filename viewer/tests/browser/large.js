@@ -3,7 +3,7 @@
 
 const assert = require("node:assert/strict");
 
-const STEPS = 40;
+const STEPS = 25;
 const MOST_OF_STEP = 60;
 const FORMS = ["detail", "folded", "compact"];
 
@@ -58,6 +58,7 @@ module.exports = async (checks) => {
         await tab.choose(files);
         await tab.wait("viewer.app.open?.execution?.steps", 300);
         console.log(`with what belongs to it: opened in ${secondsSince(since).toFixed(1)} s`);
+        await tab.wait("viewer.app.history.isDone", 300);
         await tab.evaluate("viewer.app.hasMotion = false");
         await checkForms(checks, tab, "with its steps");
     }
