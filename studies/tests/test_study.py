@@ -1,16 +1,12 @@
 """studies/study and its parts: the grid, names, answers, joining, starting again, plots and each line of an error."""
 
-import contextlib
 import hashlib
-import io
 import json
 import os
 import re
 import shutil
 import signal
 import subprocess
-import sys
-import tempfile
 import time
 import unittest
 import unittest.mock
