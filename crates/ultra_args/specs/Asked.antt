@@ -1,9 +1,10 @@
 -- what a command line asks for
-use Rattle.std.specs.Prelude.{◌==◌, ◌&&◌, ◌≤◌, ℕ, Bool, true, false, List, [], ◌∷◌, find, length, slice_index, Option, Some, None, codes, nat_lt, nat_le, if◌then◌else◌, option_map, option_and_then}
-use Rattle.std.specs.{Char.digit_value, Option.option_map_or, Str.{bytes_eq, Parse.{digits_value, without_leading_plus}}}
+use Rattle.std.specs.Prelude.{◌==◌, ◌&&◌, ◌||◌, ◌≤◌, ℕ, Bool, true, false, List, [], ◌∷◌, find, length, slice_index, Option, Some, None, is_some, codes, nat_lt, nat_le, if◌then◌else◌, option_map, option_and_then}
+use Rattle.std.specs.{Char.digit_value, Option.{option_map_or, unwrap_or}, Str.{bytes_eq, Parse.{digits_value, without_leading_plus}}}
 use Rattle.clap.specs.Words.{Row, Text, all_of, first_of, one_of, subcommand_of}
-use Rattle.ultra_args.specs.{declared.{Invocation.Invocation, LineFilter.{LineFilter, TheVariants.{All, Events, End}}, ScheduleSource.{ScheduleSource, TheVariants.{File, Seed}}, sweep_output.SweepOutput.{SweepOutput, TheVariants.{Report, Measures}}, Coordination.{Coordination, TheVariants.{Gate, Queue, ReadersWriters, Barrier, Tickets}}, table.{Argument.Argument, ArgumentKind.{ArgumentKind, TheVariants.Number}, CommandName.CommandName, CommandRow.CommandRow}}, Grammar.ultra_app}
+use Rattle.ultra_args.specs.{declared.{Invocation.Invocation, CyclesOutput.CyclesOutput, LineFilter.{LineFilter, TheVariants.{All, Events, End}}, ScheduleSource.{ScheduleSource, TheVariants.{File, Seed}}, sweep_output.SweepOutput.{SweepOutput, TheVariants.{Report, Measures}}, Coordination.{Coordination, TheVariants.{Gate, Queue, ReadersWriters, Barrier, Tickets}}, table.{Argument.Argument, ArgumentKind.{ArgumentKind, TheVariants.Number}, CommandName.CommandName, CommandRow.CommandRow}}, Grammar.ultra_app}
 use Rattle.ultra_args.specs.declared.Invocation.TheVariants as command
+use Rattle.ultra_args.specs.declared.CyclesOutput.TheVariants as shown
 use Rattle.ultra_args.specs.declared.table.CommandName.TheVariants as name
 use Rattle.ultra_args.specs.declared.table.TheConstants as arg
 
@@ -15,9 +16,9 @@ pub data Schedule : Type 0 where
 -- what the program is asked to do, with the paths as texts
 pub data Asked : Type 0 where
   run : Text → Text → ℕ → ℕ → ℕ → LineFilter → Asked
-  events : Text → Text → ℕ → ℕ → Asked
+  cycles : CyclesOutput → Text → Text → ℕ → ℕ → Asked
   requests : Text → Text → Asked
-  measure : Text → Text → Bool → Option ℕ → Asked
+  measure : Text → Text → Bool → Option ℕ → ℕ → ℕ → Asked
   order : Text → Text → Asked
   explain : Text → Text → ℕ → Asked
   check : Text → Text → Text → Asked
@@ -33,9 +34,10 @@ schedule_of (Seed seed steps) = by_seed seed steps
 abbrev pub asked_of : Invocation → Asked
 asked_of (command.Run conf prog workers from to only) =
     run conf.now prog.now workers from to only
-asked_of (command.Events conf prog from to) = events conf.now prog.now from to
+asked_of (command.Cycles output conf prog from to) = cycles output conf.now prog.now from to
 asked_of (command.Requests conf prog) = requests conf.now prog.now
-asked_of (command.Measure conf prog csv every) = measure conf.now prog.now csv every
+asked_of (command.Measure conf prog csv every from to) =
+    measure conf.now prog.now csv every from to
 asked_of (command.Order conf prog) = order conf.now prog.now
 asked_of (command.Explain conf prog heap) = explain conf.now prog.now heap
 asked_of (command.Check conf prog path) = check conf.now prog.now path.now
@@ -117,7 +119,7 @@ paths_in rows =
 abbrev pub with_run : List Row → (Text → Text → Option Asked) → Option Asked
 with_run rows next = option_and_then (λ paths. next paths.0 paths.1) (paths_in rows)
 
--- the first and the last cycle that are shown
+-- the first and the last of the cycles that are asked for
 abbrev pub cycles_in : List Row → Option (ℕ × ℕ)
 cycles_in rows =
     option_and_then (λ from. option_map (λ to. (from, to)) (argument_number arg.TO rows))
@@ -144,14 +146,18 @@ schedule_in rows =
     schedule (argument_text arg.SCHEDULE rows) (argument_number arg.SEED rows)
     (argument_number arg.STEPS rows)
 
--- windows only of measures
-abbrev pub output : Bool → Option ℕ → Option SweepOutput
-output true every = Some (Measures every)
-output false None = Some Report
-output false (Some every) = None
+-- windows of a sweep, or the first or the last of their cycles, are asked for
+abbrev pub is_for_measures : List Row → Bool
+is_for_measures rows = is_some (argument_number arg.EVERY rows)
+    || (is_some (argument_number arg.JOBS_FROM rows) || is_some (argument_number arg.JOBS_TO rows))
 
+-- windows and their cycles only of measures
 abbrev pub output_in : List Row → Option SweepOutput
-output_in rows = output (argument_flag arg.MEASURES rows) (argument_number arg.EVERY rows)
+output_in rows = if argument_flag arg.MEASURES rows
+    then Some (Measures (argument_number arg.EVERY rows)
+    (unwrap_or (argument_number arg.JOBS_FROM rows) 0)
+    (unwrap_or (argument_number arg.JOBS_TO rows) 1000000))
+    else (if is_for_measures rows then None else Some Report)
 
 -- the coordination programs of two numbers, and of one
 abbrev pub program_with_size : Text → ℕ → ℕ → Option Coordination
@@ -170,16 +176,24 @@ coordination name (z ∷ t ∷ []) =
     option_and_then (λ size. option_and_then (program_with_size name size) (decimal t)) (decimal z)
 coordination name (z ∷ t ∷ x ∷ rest) = None
 
+-- what is asked for of some cycles of a run
+abbrev pub of_cycles : CyclesOutput → List Row → Option Asked
+of_cycles output rows = option_and_then (λ range. with_run rows (λ conf prog.
+    Some (cycles output conf prog range.0 range.1))) (cycles_in rows)
+
 -- what a command is asked for
 abbrev pub asked_in : CommandName → List Row → Option Asked
 asked_in name.Run rows = option_and_then (λ cycles. with_run rows (λ conf prog.
     with_number arg.WORKERS rows (λ workers.
     option_map (run conf prog workers cycles.0 cycles.1) (line_filter rows)))) (cycles_in rows)
-asked_in name.Events rows = option_and_then (λ cycles. with_run rows (λ conf prog.
-    Some (events conf prog cycles.0 cycles.1))) (cycles_in rows)
+asked_in name.Events rows = of_cycles shown.Events rows
+asked_in name.Steps rows = of_cycles shown.Steps rows
 asked_in name.Requests rows = with_run rows (λ conf prog. Some (requests conf prog))
-asked_in name.Measure rows = with_run rows (λ conf prog.
-    Some (measure conf prog (argument_flag arg.CSV rows) (argument_number arg.EVERY rows)))
+asked_in name.Latencies rows = of_cycles shown.Latencies rows
+asked_in name.Measure rows = option_and_then (λ cycles. with_run rows (λ conf prog.
+    Some (measure conf prog (argument_flag arg.CSV rows) (argument_number arg.EVERY rows)
+    cycles.0 cycles.1))) (cycles_in rows)
+asked_in name.Queues rows = of_cycles shown.Queues rows
 asked_in name.Order rows = with_run rows (λ conf prog. Some (order conf prog))
 asked_in name.Explain rows = with_run rows (λ conf prog. with_number arg.HEAP rows (λ heap.
     Some (explain conf prog heap)))

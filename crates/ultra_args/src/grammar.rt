@@ -1,7 +1,7 @@
 //! The table of commands, as `clap` knows it.
 
 ghost use Rattle.std.specs.Prelude.{◌≡◌, IfOk};
-ghost use Rattle.clap.specs.Words.{new_app, new_rule, Text};
+ghost use Rattle.clap.specs.{Words.{new_app, new_rule, AddsSubcommand, Text}, declared.builder.Command.Command};
 ghost use Rattle.ultra_args.specs.Asked.{command_among, command_named};
 ghost use Rattle.ultra_args.specs.Grammar.{app_in, kind_rule, program_app, program_in, rule_in, ultra_app, IsRead, IsApp};
 
@@ -34,9 +34,22 @@ fn program_with<'c>(alloc: Global, commands: &[TableRow]) -> Result<Command<'c>,
 {
     let mut program = new_program(alloc);
     for command in commands {
-        program = program.subcommand(command_of(alloc, command)?)?;
+        program = with_command(alloc, program, command)?;
     }
     Ok(program)
+}
+
+/// The program with the command of one more row.
+fn with_command<'c>(
+    alloc: Global,
+    program: Command<'c>,
+    row: &TableRow,
+) -> Result<Command<'c>, AllocError>
+    ensures { IfOk result (λ new. (c : Command) × IsApp (app_in (λ t. t.now) (λ r. r.now) row.now) c
+        × AddsSubcommand program.entry c new) }
+{
+    let command = command_of(alloc, row)?;
+    program.subcommand(command)
 }
 
 /// The program without its commands.

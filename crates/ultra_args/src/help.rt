@@ -15,20 +15,15 @@ pub struct Help<'c> {
 
 /// The help of a command.
 pub fn of_command(command: CommandName) -> Help<'static> {
-    match command {
-        CommandName::Run => RUN,
-        CommandName::Events => EVENTS,
-        CommandName::Requests => REQUESTS,
-        CommandName::Measure => MEASURE,
-        CommandName::Order => ORDER,
-        CommandName::Explain => EXPLAIN,
-        CommandName::Check => CHECK,
-        CommandName::Para => PARA,
-        CommandName::List => LIST,
-        CommandName::Sweep => SWEEP,
-        CommandName::Lib => LIB,
-    }
+    COMMAND_HELPS[command as usize]
 }
+
+/// The help of each command, in the order of [`CommandName`]. In a `match` each text would be
+/// proved by itself.
+static COMMAND_HELPS: [Help<'static>; 14] = [
+    RUN, EVENTS, STEPS, REQUESTS, LATENCIES, MEASURE, QUEUES, ORDER, EXPLAIN, CHECK, PARA, LIST,
+    SWEEP, LIB,
+];
 
 /// The arguments of the table, by their helps.
 #[derive(Clone, Copy)]
@@ -41,6 +36,8 @@ pub enum ArgumentHelp {
     Only,
     Csv,
     Every,
+    MeasuredFrom,
+    MeasuredTo,
     Heap,
     List,
     Schedule,
@@ -53,16 +50,25 @@ pub enum ArgumentHelp {
     AtOnce,
     Progress,
     Measures,
+    JobsFrom,
+    JobsTo,
     Name,
     Number,
 }
 
 /// The help of an argument. What follows an empty line is shown by `--help` alone.
 pub fn of_argument(argument: ArgumentHelp) -> &'static str {
-    match argument {
-        ArgumentHelp::Conf => "The settings of the machine, a TOML file",
-        ArgumentHelp::Prog => "The program of the processing elements, an assembler text",
-        ArgumentHelp::Workers => "\
+    ARGUMENT_HELPS[argument as usize]
+}
+
+/// The help of each argument, in the order of [`ArgumentHelp`].
+static ARGUMENT_HELPS: [&'static str; 26] = [
+    // Conf
+    "The settings of the machine, a TOML file",
+    // Prog
+    "The program of the processing elements, an assembler text",
+    // Workers
+    "\
 How many threads make the cycles, 1 to 64
 
 The trace is the same for every H. One worker is the fastest, and
@@ -71,56 +77,82 @@ part of the machine and gives it back, which costs more than it gains
 on machines of up to six stages. Measured at six stages, 2 workers
 took some 11 times as long as 1, and 8 workers more than 100 times
 (bench/README.md).",
-        ArgumentHelp::From => "The first cycle that is shown, 0 to 1000000",
-        ArgumentHelp::To => "The last cycle that is shown, 0 to 1000000",
-        ArgumentHelp::Only => "\
+    // From
+    "The first cycle that is shown, 0 to 1000000",
+    // To
+    "The last cycle that is shown, 0 to 1000000",
+    // Only
+    "\
 Which lines are shown
 
 all     all lines of the cycles that are shown, and the end
 events  the lines of the events, and none of the state; and the end
 end     only the end",
-        ArgumentHelp::Csv => "Writes a table, its values separated by commas",
-        ArgumentHelp::Every => "\
+    // Csv
+    "Writes a table, its values separated by commas",
+    // Every
+    "\
 The number of cycles of a window, 1 to 1000000
 
 The measures are a table with a line for each window. Without this
-option the whole run is the one window.",
-        ArgumentHelp::Heap => "\
+option all that is measured is the one window.",
+    // MeasuredFrom
+    "The first cycle that is measured, 0 to 1000000",
+    // MeasuredTo
+    "The last cycle that is measured, 0 to 1000000",
+    // Heap
+    "\
 Bytes for the trees, 256 to 16777216
 
 Only the trees of requests that are on their way have to fit, so a
 longer run needs no larger heap.",
-        ArgumentHelp::List => "The list of requests and replies, in the form that `order` writes",
-        ArgumentHelp::Schedule => "The PE that makes each step: a file of PE numbers",
-        ArgumentHelp::Seed => "\
+    // List
+    "The list of requests and replies, in the form that `order` writes",
+    // Schedule
+    "The PE that makes each step: a file of PE numbers",
+    // Seed
+    "\
 Chooses each PE at random, S 0 to 18446744073709551615
 
 The same seed gives the same run. It ends once all PEs have stopped,
 or after the steps of --steps.",
-        ArgumentHelp::Steps => "\
+    // Steps
+    "\
 The most steps with --seed, 0 to 4294967295
 
 Without this option, the number of cycles in CONF times the number of
 PEs.",
-        ArgumentHelp::AllOrEnd => "What is written: all, or only the end",
-        ArgumentHelp::Careful => "\
+    // AllOrEnd
+    "What is written: all, or only the end",
+    // Careful
+    "\
 Tests whether the program is careful
 
 A program is careful if `fence` directly follows each instruction that
 uses memory. Otherwise the status is 1, and standard error says which
 one it doesn't follow.",
-        ArgumentHelp::Jobs => "The settings and programs of the runs, a TOML file",
-        ArgumentHelp::JobWorkers => "\
+    // Jobs
+    "The settings and programs of the runs, a TOML file",
+    // JobWorkers
+    "\
 How many threads do the jobs, 1 to 64
 
 Each job is run by one thread, so a sweep gains by threads. Measured
 on four processors, jobs of some hundredths of a second were done 1.8
 times as fast by 2 threads as by 1, and 2.6 times by 4; jobs of one or
 two milliseconds gained little (bench/README.md).",
-        ArgumentHelp::AtOnce => "How many jobs may run at once, 1 to 64",
-        ArgumentHelp::Progress => "Shows on standard error how many jobs are finished",
-        ArgumentHelp::Measures => "Writes the measures of each job in place of its trace",
-        ArgumentHelp::Name => "\
+    // AtOnce
+    "How many jobs may run at once, 1 to 64",
+    // Progress
+    "Shows on standard error how many jobs are finished",
+    // Measures
+    "Writes the measures of each job in place of its trace",
+    // JobsFrom
+    "With --measure, the first cycle that is measured, 0 to 1000000",
+    // JobsTo
+    "With --measure, the last cycle that is measured, 0 to 1000000",
+    // Name
+    "\
 gate (B T), queue (Z T), rw (G T), barrier (T) or tickets (T)
 
 gate B T   at most B PEs are inside at once, B 1 to 64
@@ -128,13 +160,13 @@ queue Z T  a queue of 2^Z places, Z 0 to 6
 rw G T     PEs below G write and the others read, G 0 to 64
 barrier T  all PEs wait for one another
 tickets T  each ticket goes to one PE",
-        ArgumentHelp::Number => "\
+    // Number
+    "\
 The size that the program is for, and the number T of rounds
 
 A barrier and tickets have no size. T is 1 to 1000. Each number is in
 decimal digits.",
-    }
-}
+];
 
 /// The version of the program, and of its trace.
 pub const VERSION: &str = "1.1.0 (trace 2)";
@@ -266,6 +298,28 @@ P.N@A is request N of PE P, to cell A.",
 docs/FORMATS.md lists the settings, the instructions and what a line says."
 );
 
+/// The help of `steps`.
+pub const STEPS: Help<'static> = help!(
+    "Writes the steps of the processing elements",
+    "\
+CONF is read first. Once both files are accepted, an instruction trace goes to
+standard output: a line for each step of a processing element (PE), and one for
+each answer that comes to a register. rI=V says that register I is set to V.",
+    done: "all lines are written",
+    text: "text",
+    example: "Example, two PEs that add 1 to one cell:
+
+    $ cd examples/combined_pair && ultra steps conf.toml prog.s --from 2
+    2 step 0 2 faa r3 r1 r2 0.0@0 faa 1
+    2 step 1 2 faa r3 r1 r2 1.0@0 faa 1
+    3 step 0 3 halt
+    3 step 1 3 halt
+    7 reply 0 r3=1 0.0@0
+    7 reply 1 r3=0 1.0@0
+
+docs/FORMATS.md lists the settings, the instructions and what a line says."
+);
+
 /// The help of `requests`.
 pub const REQUESTS: Help<'static> = help!(
     "Writes the requests of a run as a table",
@@ -281,6 +335,24 @@ the answer, and then the others.",
     pe,number,op,cell,word,issued,answered,reply
     0,0,faa,0,1,2,7,1
     1,0,faa,0,1,2,7,0
+
+docs/FORMATS.md lists the settings, the instructions and the columns."
+);
+
+/// The help of `latencies`.
+pub const LATENCIES: Help<'static> = help!(
+    "Writes how many requests took how long",
+    "\
+CONF is read first. Once both files are accepted, a table goes to standard
+output in CSV: for each latency that occurred, the number of answers that had
+it. A latency is the cycle of the answer minus the cycle of the issue.",
+    done: "the whole table is written",
+    text: "table",
+    example: "Example, two PEs that add 1 to one cell:
+
+    $ cd examples/combined_pair && ultra latencies conf.toml prog.s
+    latency,answered
+    5,2
 
 docs/FORMATS.md lists the settings, the instructions and the columns."
 );
@@ -302,6 +374,26 @@ line `NAME VALUE` for each, or with --csv or --every a table.",
     latency_mean 5.000
 
 docs/FORMATS.md lists the settings, the instructions and the measures."
+);
+
+/// The help of `queues`.
+pub const QUEUES: Help<'static> = help!(
+    "Writes what each queue moved and held",
+    "\
+CONF is read first. Once both files are accepted, a table goes to standard
+output in CSV, a row for each stage and position: what the request queue, the
+wait buffer and the reply queue there moved and held, and how often each was
+full.",
+    done: "the whole table is written",
+    text: "table",
+    example: "Example, two PEs that add 1 to one cell:
+
+    $ cd examples/combined_pair && ultra queues conf.toml prog.s | cut -d, -f3-8
+    stage,position,requests,combined,request_queue_sum,request_queue_most
+    0,0,1,1,1,1
+    0,1,0,0,0,0
+
+docs/FORMATS.md lists the settings, the instructions and the columns."
 );
 
 /// The help of `order`.

@@ -36,15 +36,18 @@ pub enum Invocation<'w> {
         /// Which lines of these cycles are shown.
         only: LineFilter,
     },
-    /// To write the events of a run: `ultra events CONF PROG [--from A] [--to B]`.
-    Events {
+    /// To write what happened in some cycles of a run:
+    /// `ultra events|steps|latencies|queues CONF PROG [--from A] [--to B]`.
+    Cycles {
+        /// What is written of these cycles.
+        output: CyclesOutput,
         /// The path of the settings.
         settings: &'w str,
         /// The path of the program's text.
         program: &'w str,
-        /// The first cycle that is shown: 0 where no number is given.
+        /// The first of these cycles: 0 where no number is given.
         from: u32,
-        /// The last cycle that is shown: 1,000,000 where no number is given.
+        /// The last one: 1,000,000 where no number is given.
         to: u32,
     },
     /// To write the requests of a run as a table: `ultra requests CONF PROG`.
@@ -54,7 +57,8 @@ pub enum Invocation<'w> {
         /// The path of the program's text.
         program: &'w str,
     },
-    /// To write the measures of a run: `ultra measure CONF PROG [--csv] [--every E]`.
+    /// To write the measures of a run:
+    /// `ultra measure CONF PROG [--csv] [--every E] [--from A] [--to B]`.
     Measure {
         /// The path of the settings.
         settings: &'w str,
@@ -62,8 +66,12 @@ pub enum Invocation<'w> {
         program: &'w str,
         /// Whether the values are a table, separated by commas.
         csv: bool,
-        /// The length of a window. Where no number is given, the whole run is the one window.
+        /// The length of a window. Where no number is given, all that is measured is the one window.
         every: Option<WindowCycles>,
+        /// The first cycle that is measured: 0 where no number is given.
+        from: u32,
+        /// The last cycle that is measured: 1,000,000 where no number is given.
+        to: u32,
     },
     /// To write the serial order of a run: `ultra order CONF PROG`.
     Order {
@@ -111,7 +119,7 @@ pub enum Invocation<'w> {
         careful: bool,
     },
     /// To write the traces or the measures of many runs: `ultra sweep JOBS --workers H --at-once B
-    /// [--progress] [--measure [--every E]]`.
+    /// [--progress] [--measure [--every E] [--from A] [--to B]]`.
     Sweep {
         /// The path of the file of jobs.
         jobs: &'w str,
@@ -137,6 +145,19 @@ pub enum LineFilter {
     Events,
     /// No line of a cycle: only the end is shown.
     End,
+}
+
+/// What is written of some cycles of a run.
+#[derive(Clone, Copy)]
+pub enum CyclesOutput {
+    /// The events.
+    Events,
+    /// The steps of the processing elements.
+    Steps,
+    /// How many answers took how long.
+    Latencies,
+    /// What each queue moved and held.
+    Queues,
 }
 
 /// Where the steps of a paracomputer come from.

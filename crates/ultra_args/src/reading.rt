@@ -8,12 +8,12 @@ ghost use Rattle.ultra_args.specs.Asked.{asked_of, decimal, given_number, is_set
 use crate::grammar::commands;
 use crate::table::{
     ALL_OR_END, AT_ONCE, ArgumentKind, CAREFUL, CONF, CSV, CommandName, EVERY, FROM, HEAP,
-    JOB_WORKERS, JOBS, LIST, MEASURES, NAME, NUMBER, ONLY, PROG, PROGRESS, SCHEDULE, SEED, STEPS,
-    TO, TableArgument, TableRow, WORKERS,
+    JOB_WORKERS, JOBS, JOBS_FROM, JOBS_TO, LIST, MEASURES, NAME, NUMBER, ONLY, PROG, PROGRESS,
+    SCHEDULE, SEED, STEPS, TO, TableArgument, TableRow, WORKERS,
 };
 use crate::{
-    Coordination, HeapBytes, Invocation, JobsAtOnce, LineFilter, ScheduleSource, SweepOutput,
-    WindowCycles, Workers,
+    Coordination, CyclesOutput, HeapBytes, Invocation, JobsAtOnce, LineFilter, ScheduleSource,
+    SweepOutput, WindowCycles, Workers,
 };
 use clap::ArgMatches;
 
@@ -54,9 +54,12 @@ fn asked_in<'w>(command: CommandName, words: &ArgMatches<'w>) -> Option<Invocati
 {
     match command {
         CommandName::Run => run(words),
-        CommandName::Events => events(words),
+        CommandName::Events => of_cycles(CyclesOutput::Events, words),
+        CommandName::Steps => of_cycles(CyclesOutput::Steps, words),
         CommandName::Requests => requests(words),
+        CommandName::Latencies => of_cycles(CyclesOutput::Latencies, words),
         CommandName::Measure => measure(words),
+        CommandName::Queues => of_cycles(CyclesOutput::Queues, words),
         CommandName::Order => order(words),
         CommandName::Explain => explain(words),
         CommandName::Check => check(words),
@@ -84,14 +87,15 @@ fn run<'w>(words: &ArgMatches<'w>) -> Option<Invocation<'w>>
     })
 }
 
-/// The `events` command that these arguments ask for.
-fn events<'w>(words: &ArgMatches<'w>) -> Option<Invocation<'w>>
+/// The command that writes this of some cycles, as these arguments ask for it.
+fn of_cycles<'w>(output: CyclesOutput, words: &ArgMatches<'w>) -> Option<Invocation<'w>>
     ensures { option_map asked_of result
-        ≡ spec.asked_in CommandName.Events (rows_of (found_of words.now)) }
+        ≡ spec.of_cycles output (rows_of (found_of words.now)) }
 {
     let (from, to) = cycles(words)?;
     let (settings, program) = paths(words)?;
-    Some(Invocation::Events {
+    Some(Invocation::Cycles {
+        output,
         settings,
         program,
         from,
@@ -113,12 +117,15 @@ fn measure<'w>(words: &ArgMatches<'w>) -> Option<Invocation<'w>>
     ensures { option_map asked_of result
         ≡ spec.asked_in CommandName.Measure (rows_of (found_of words.now)) }
 {
+    let (from, to) = cycles(words)?;
     let (settings, program) = paths(words)?;
     Some(Invocation::Measure {
         settings,
         program,
         csv: is_set(words, &CSV),
         every: every(words),
+        from,
+        to,
     })
 }
 
@@ -222,7 +229,7 @@ fn program<'w>(words: &ArgMatches<'w>) -> Option<&'w str>
     text(words, &PROG)
 }
 
-/// The first and the last cycle that are shown.
+/// The first and the last of the cycles that are asked for.
 fn cycles(words: &ArgMatches<'_>) -> Option<(u32, u32)>
     ensures { result ≡ spec.cycles_in (rows_of (found_of words.now)) }
 {
@@ -284,15 +291,42 @@ fn every(words: &ArgMatches<'_>) -> Option<WindowCycles>
     Some(WindowCycles::new(number(words, &EVERY)?))
 }
 
-/// What a sweep writes. There are windows of measures alone.
+/// What a sweep writes. Windows and their cycles belong to measures.
 fn output(words: &ArgMatches<'_>) -> Option<SweepOutput>
     ensures { result ≡ spec.output_in (rows_of (found_of words.now)) }
 {
-    match (is_set(words, &MEASURES), every(words)) {
-        (true, every) => Some(SweepOutput::Measures { every }),
-        (false, None) => Some(SweepOutput::Report),
-        (false, Some(_)) => None,
+    if is_set(words, &MEASURES) {
+        Some(SweepOutput::Measures {
+            every: every(words),
+            from: jobs_from(words).unwrap_or(0),
+            to: jobs_to(words).unwrap_or(1_000_000),
+        })
+    } else if is_for_measures(words) {
+        None
+    } else {
+        Some(SweepOutput::Report)
     }
+}
+
+/// Whether windows of a sweep, or the first or the last of their cycles, are asked for.
+fn is_for_measures(words: &ArgMatches<'_>) -> bool
+    ensures { result ≡ spec.is_for_measures (rows_of (found_of words.now)) }
+{
+    every(words).is_some() || jobs_from(words).is_some() || jobs_to(words).is_some()
+}
+
+/// The first cycle of each job that is measured, if a number is given.
+fn jobs_from(words: &ArgMatches<'_>) -> Option<u32>
+    ensures { result ≡ number_of JOBS_FROM.name.now JOBS_FROM.kind (rows_of (found_of words.now)) }
+{
+    Some(number(words, &JOBS_FROM)? as u32)
+}
+
+/// The last cycle of each job that is measured, if a number is given.
+fn jobs_to(words: &ArgMatches<'_>) -> Option<u32>
+    ensures { result ≡ number_of JOBS_TO.name.now JOBS_TO.kind (rows_of (found_of words.now)) }
+{
+    Some(number(words, &JOBS_TO)? as u32)
 }
 
 /// The coordination program of this name and these numbers.

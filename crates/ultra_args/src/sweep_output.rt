@@ -9,7 +9,11 @@ pub enum SweepOutput {
     Report,
     /// The measures of each job.
     Measures {
-        /// The length of a window. Where no number is given, the whole run is the one window.
+        /// The length of a window. Where no number is given, all that is measured is the one window.
         every: Option<WindowCycles>,
+        /// The first cycle that is measured: 0 where no number is given.
+        from: u32,
+        /// The last cycle that is measured: 1,000,000 where no number is given.
+        to: u32,
     },
 }

@@ -8,8 +8,11 @@ use crate::help::ArgumentHelp;
 pub enum CommandName {
     Run,
     Events,
+    Steps,
     Requests,
+    Latencies,
     Measure,
+    Queues,
     Order,
     Explain,
     Check,
@@ -81,7 +84,7 @@ pub type TableArgument = Argument<&'static str>;
 pub type TableRow = CommandRow<&'static str, &'static [TableArgument]>;
 
 /// The commands with their arguments.
-pub static COMMANDS: [TableRow; 11] = [
+pub static COMMANDS: [TableRow; 14] = [
     CommandRow {
         command: CommandName::Run,
         name: "run",
@@ -93,14 +96,29 @@ pub static COMMANDS: [TableRow; 11] = [
         arguments: &[CONF, PROG, FROM, TO],
     },
     CommandRow {
+        command: CommandName::Steps,
+        name: "steps",
+        arguments: &[CONF, PROG, FROM, TO],
+    },
+    CommandRow {
         command: CommandName::Requests,
         name: "requests",
         arguments: &[CONF, PROG],
     },
     CommandRow {
+        command: CommandName::Latencies,
+        name: "latencies",
+        arguments: &[CONF, PROG, MEASURED_FROM, MEASURED_TO],
+    },
+    CommandRow {
         command: CommandName::Measure,
         name: "measure",
-        arguments: &[CONF, PROG, CSV, EVERY],
+        arguments: &[CONF, PROG, CSV, EVERY, MEASURED_FROM, MEASURED_TO],
+    },
+    CommandRow {
+        command: CommandName::Queues,
+        name: "queues",
+        arguments: &[CONF, PROG, MEASURED_FROM, MEASURED_TO],
     },
     CommandRow {
         command: CommandName::Order,
@@ -130,7 +148,16 @@ pub static COMMANDS: [TableRow; 11] = [
     CommandRow {
         command: CommandName::Sweep,
         name: "sweep",
-        arguments: &[JOBS, JOB_WORKERS, AT_ONCE, PROGRESS, MEASURES, EVERY],
+        arguments: &[
+            JOBS,
+            JOB_WORKERS,
+            AT_ONCE,
+            PROGRESS,
+            MEASURES,
+            EVERY,
+            JOBS_FROM,
+            JOBS_TO,
+        ],
     },
     CommandRow {
         command: CommandName::Lib,
@@ -193,6 +220,20 @@ pub const EVERY: TableArgument = Argument {
     help: ArgumentHelp::Every,
     kind: ArgumentKind::Number("E", 1, 1_000_000),
     presence: Presence::Optional,
+};
+
+pub const MEASURED_FROM: TableArgument = Argument {
+    name: "from",
+    help: ArgumentHelp::MeasuredFrom,
+    kind: ArgumentKind::Number("A", 0, 1_000_000),
+    presence: Presence::Default("0"),
+};
+
+pub const MEASURED_TO: TableArgument = Argument {
+    name: "to",
+    help: ArgumentHelp::MeasuredTo,
+    kind: ArgumentKind::Number("B", 0, 1_000_000),
+    presence: Presence::Default("1000000"),
 };
 
 pub const HEAP: TableArgument = Argument {
@@ -276,6 +317,20 @@ pub const MEASURES: TableArgument = Argument {
     name: "measure",
     help: ArgumentHelp::Measures,
     kind: ArgumentKind::Flag,
+    presence: Presence::Optional,
+};
+
+pub const JOBS_FROM: TableArgument = Argument {
+    name: "from",
+    help: ArgumentHelp::JobsFrom,
+    kind: ArgumentKind::Number("A", 0, 1_000_000),
+    presence: Presence::Optional,
+};
+
+pub const JOBS_TO: TableArgument = Argument {
+    name: "to",
+    help: ArgumentHelp::JobsTo,
+    kind: ArgumentKind::Number("B", 0, 1_000_000),
     presence: Presence::Optional,
 };
 

@@ -14,7 +14,7 @@ const PARA_WANTS: &str = "the steps come from SCHEDULE or from --seed S, and not
                           --steps T belongs to --seed; --only is all or end";
 
 /// The text of a usage fault of `sweep`.
-const SWEEP_WANTS: &str = "--every E belongs to --measure";
+const SWEEP_WANTS: &str = "--every E, --from A and --to B belong to --measure";
 
 /// The text of a usage fault of `lib`.
 const LIB_WANTS: &str = "the coordination programs are gate B T, queue Z T, rw G T, barrier T \
