@@ -12,8 +12,8 @@ window_cycles (Some every) = every
 -- what a job gives: its trace, or the rows of its measures
 abbrev pub job_output : SweepOutput → ℕ → Job → List ℕ
 job_output Report number job = trace_of job
-job_output (Measures every) number job =
-    job_rows job.config job.program number (window_cycles every)
+job_output (Measures every from to) number job =
+    job_rows job.config job.program from to number (window_cycles every)
 
 -- for each job in order the line `job I`, and its trace
 abbrev pub report_of : List Job → List ℕ
@@ -22,5 +22,5 @@ report_of jobs = report_text (map trace_of jobs)
 -- the report, or the table of the measures of all jobs
 abbrev pub swept_text : SweepOutput → List Job → List ℕ
 swept_text Report jobs = report_of jobs
-swept_text (Measures every) jobs =
-    table_text all_names (texts_of (job_output (Measures every)) jobs)
+swept_text (Measures every from to) jobs =
+    table_text all_names (texts_of (job_output (Measures every from to)) jobs)

@@ -87,7 +87,9 @@ impl JobGate for OutputGate<'_> {
     ) -> JobResult {
         let outcome = match *self.output {
             SweepOutput::Report => self.trace(alloc, job),
-            SweepOutput::Measures { every } => measure_job(alloc, number, job, cycles_of(every)),
+            SweepOutput::Measures { every, from, to } => {
+                measure_job(alloc, number, job, from, to, cycles_of(every))
+            }
         };
         JobResult { number, outcome }
     }
@@ -115,14 +117,16 @@ fn cycles_of(every: Option<WindowCycles>) -> u32
     }
 }
 
-/// The rows of a job in the table of measures, in windows of `every` cycles.
-fn measure_job(alloc: Global, number: u64, job: &Job, every: u32) -> JobOutcome
+/// The rows of a job in the table of measures, in windows of `every` cycles, from the cycle `from`
+/// to `to`.
+fn measure_job(alloc: Global, number: u64, job: &Job, from: u32, to: u32, every: u32) -> JobOutcome
     requires { 1 ≤ every }
-    ensures { IsOutcomeOf (job_rows job.now.config job.now.program number every) result }
+    ensures { IsOutcomeOf (job_rows job.now.config job.now.program from to number every) result }
 {
     let layout = Layout::JobRows { job: number, every };
     let mut text = Text::new(alloc);
-    match measure(alloc, &job.config, &job.program, layout, &mut text) {
+    let Job { config, program } = job;
+    match measure(alloc, config, program, from, to, layout, &mut text) {
         Ok(()) => JobOutcome::Text(text.into_bytes()),
         Err(_) => JobOutcome::NoMemory,
     }

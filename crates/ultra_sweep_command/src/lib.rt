@@ -141,6 +141,6 @@ fn write_output<O: Sink>(
 {
     match *output {
         SweepOutput::Report => report(gathered, out),
-        SweepOutput::Measures { every: _ } => write_job_table(gathered, measure_names(), out),
+        SweepOutput::Measures { .. } => write_job_table(gathered, measure_names(), out),
     }
 }
