@@ -14,4 +14,4 @@ same_part from to lines a b c = rw (a, b, c) refl
 
 pub all_is_trace : (part : TracePart) (c : Settings) (p : List Instr) → c.cycles ≤ 1000000 → IsAll part → part_of part c p ≡ trace c p
 all_is_trace part c p most all =
-    ap (λ q. part_of q c p) (same_part part.from part.to part.lines all.from all.to all.lines) ∙ whole_part c p 1000000 most
+    ap (λ q. part_of q c p) (same_part part.from part.to part.lines all.from all.to all.lines) ∙ whole_part c p most

@@ -1,15 +1,15 @@
 -- which commands were obeyed, and with which status the program ends; this project's profile
 use Rattle.std.specs.Prelude.{◌≡◌, ◌≢◌, ◌+◌, ℕ, List, [], ◌∷◌, ◌++◌, string_bytes, Result, OnOk, IfErr}
 use Rattle.ultra_msg.specs.Bytes.{TakesPrefix}
-use Rattle.ultra_args.specs.declared.Invocation.TheVariants.{Run, Events, Requests, Measure, Order, Explain, Check, Para, List as ListOf, Sweep, Lib}
+use Rattle.ultra_args.specs.declared.Invocation.TheVariants.{Run, Cycles, Requests, Measure, Order, Explain, Check, Para, List as ListOf, Sweep, Lib}
 use Rattle.ultra_command_line.specs.declared.Parsed.{Parsed}
 use Rattle.ultra_command_line.specs.declared.Parsed.TheVariants as parsed
 use Rattle.ultra_inputs.specs.{declared.failure.Failure.{Failure, TheVariants.{Usage, NoMemory, HeapTooSmall, HeapFull, NotWritten}}, Traffic.{Traffic, IsStopped, WroteText, TextFails}, Failure.{status_of, read_failures}, Shown.IsReported, Status.{IsStatus, IsRefusal, status_failures}}
 use Rattle.ultra_io.specs.Account.{SinkState}
-use Rattle.ultra_commands.specs.{Listing.{WroteListing, ListFails}, Stops.{WroteRun, RunFails}, Outputs.{measures_asked, part_asked}, Check.{WroteLegal, CheckFails}, Paracomputer.{WrotePara, ParaFails}, Order.order_of, Coordination.{WroteProgram, LibFails}}
+use Rattle.ultra_commands.specs.{Listing.{WroteListing, ListFails}, Stops.{WroteRun, RunFails}, Outputs.{cycles_text, measures_asked, part_asked}, Check.{WroteLegal, CheckFails}, Paracomputer.{WrotePara, ParaFails}, Order.order_of, Coordination.{WroteProgram, LibFails}}
 use Rattle.ultra_explain_command.specs.Explanation.{explanation_of, EndsFull, IsCutShort}
 use Rattle.ultra_sweep_command.specs.Sweep.{Swept, SweepFails}
-use Rattle.ultra_requests.specs.{EventLines.events_of, RequestTable.requests_of}
+use Rattle.ultra_requests.specs.RequestTable.{requests_of}
 
 -- how an explanation fails: where the heap is full, the lines before a combination are written, and
 -- nothing where it is too small
@@ -31,12 +31,12 @@ AnswerFails text old new f =
 abbrev pub Obeyed : Parsed → Traffic → Traffic → SinkState → SinkState → Type 0
 Obeyed (parsed.Invocation (Run conf prog workers from to only)) old new before after =
     WroteRun (part_asked from to only) conf.now prog.now old new × (after ≡ before)
-Obeyed (parsed.Invocation (Events conf prog from to)) old new before after =
-    WroteText (events_of from to) conf.now prog.now old new × (after ≡ before)
+Obeyed (parsed.Invocation (Cycles output conf prog from to)) old new before after =
+    WroteText (cycles_text output from to) conf.now prog.now old new × (after ≡ before)
 Obeyed (parsed.Invocation (Requests conf prog)) old new before after =
     WroteText requests_of conf.now prog.now old new × (after ≡ before)
-Obeyed (parsed.Invocation (Measure conf prog csv every)) old new before after =
-    WroteText (measures_asked csv every) conf.now prog.now old new × (after ≡ before)
+Obeyed (parsed.Invocation (Measure conf prog csv every from to)) old new before after =
+    WroteText (measures_asked csv every from to) conf.now prog.now old new × (after ≡ before)
 Obeyed (parsed.Invocation (Order conf prog)) old new before after =
     WroteText order_of conf.now prog.now old new × (after ≡ before)
 Obeyed (parsed.Invocation (Explain conf prog heap)) old new before after =
@@ -62,12 +62,14 @@ Obeyed parsed.NoMemory old new before after = ⊥
 abbrev pub NotObeyed : Parsed → Traffic → Traffic → SinkState → SinkState → Failure → Type 0
 NotObeyed (parsed.Invocation (Run conf prog workers from to only)) old new before after f =
     RunFails (part_asked from to only) workers conf.now prog.now old new f × (after ≡ before)
-NotObeyed (parsed.Invocation (Events conf prog from to)) old new before after f =
-    TextFails (events_of from to) IsStopped conf.now prog.now old new f × (after ≡ before)
+NotObeyed (parsed.Invocation (Cycles output conf prog from to)) old new before after f =
+    TextFails (cycles_text output from to) IsStopped conf.now prog.now old new f
+    × (after ≡ before)
 NotObeyed (parsed.Invocation (Requests conf prog)) old new before after f =
     TextFails requests_of IsStopped conf.now prog.now old new f × (after ≡ before)
-NotObeyed (parsed.Invocation (Measure conf prog csv every)) old new before after f =
-    TextFails (measures_asked csv every) IsStopped conf.now prog.now old new f × (after ≡ before)
+NotObeyed (parsed.Invocation (Measure conf prog csv every from to)) old new before after f =
+    TextFails (measures_asked csv every from to) IsStopped conf.now prog.now old new f
+    × (after ≡ before)
 NotObeyed (parsed.Invocation (Order conf prog)) old new before after f =
     TextFails order_of IsStopped conf.now prog.now old new f × (after ≡ before)
 NotObeyed (parsed.Invocation (Explain conf prog heap)) old new before after f =

@@ -5,7 +5,10 @@ use Rattle.ultra_model.specs.Machine.{Settings}
 use Rattle.ultra_trace_alone.specs.declared.part.{CycleLines.CycleLines, TracePart.TracePart}
 use Rattle.ultra_trace_alone.specs.declared.part.CycleLines.TheVariants as lines
 use Rattle.ultra_measure.specs.{declared.measuring.Layout.{Layout, TheVariants.{Lines, Table}}, Texts.measured}
-use Rattle.ultra_args.specs.declared.LineFilter.{LineFilter}
+use Rattle.ultra_requests.specs.EventLines.{events_of}
+use Rattle.ultra_steps.specs.StepLines.{steps_of}
+use Rattle.ultra_args.specs.declared.{CyclesOutput.CyclesOutput, LineFilter.LineFilter}
+use Rattle.ultra_args.specs.declared.CyclesOutput.TheVariants as cycles
 use Rattle.ultra_args.specs.declared.LineFilter.TheVariants as filter
 
 -- the lines of a cycle that are shown
@@ -17,11 +20,16 @@ lines_asked filter.End = lines.None
 abbrev pub part_asked : ℕ → ℕ → LineFilter → TracePart
 part_asked from to only = record { from = from; to = to; lines = lines_asked only }
 
--- the form of the measures: windows of a number of cycles, or the whole run as the one window
+-- the form of the measures: windows of a number of cycles, or all that is measured as one window
 abbrev pub layout_asked : Bool → Option ℕ → Layout
 layout_asked csv (Some every) = Table every
 layout_asked true None = Table 1000000
 layout_asked false None = Lines
 
-abbrev pub measures_asked : Bool → Option ℕ → Settings → List Instr → List ℕ
-measures_asked csv every c p = measured c p (layout_asked csv every)
+abbrev pub measures_asked : Bool → Option ℕ → ℕ → ℕ → Settings → List Instr → List ℕ
+measures_asked csv every from to c p = measured c p from to (layout_asked csv every)
+
+-- what is written of some cycles
+abbrev pub cycles_text : CyclesOutput → ℕ → ℕ → Settings → List Instr → List ℕ
+cycles_text cycles.Events = events_of
+cycles_text cycles.Steps = steps_of

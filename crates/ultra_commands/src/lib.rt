@@ -21,7 +21,7 @@ use crate::coordination::write_program;
 use crate::listing::list;
 use crate::para::para;
 use crate::run_output::write_run_output;
-use crate::run_texts::{Events, Measures, Requests};
+use crate::run_texts::{CyclesText, Measures, Requests};
 use crate::serial_order::SerialOrder;
 use crate::trace::{part_asked, run};
 use std::sync::Wait;
@@ -123,14 +123,15 @@ fn carry_out<'w, R: AllocGlobal + Threads + Wait + Sync, F: Source, O: Sink, E: 
             let done = run(rt, alloc, settings, program, part, workers, source, out);
             report_outcome(done, err)
         }
-        Invocation::Events {
+        Invocation::Cycles {
+            output,
             settings,
             program,
             from,
             to,
         } => {
-            let events = Events { from, to };
-            let done = write_run_output(alloc, settings, program, &events, source, out);
+            let text = CyclesText { output, from, to };
+            let done = write_run_output(alloc, settings, program, &text, source, out);
             report_outcome(done, err)
         }
         Invocation::Requests { settings, program } => {
@@ -142,8 +143,15 @@ fn carry_out<'w, R: AllocGlobal + Threads + Wait + Sync, F: Source, O: Sink, E: 
             program,
             csv,
             every,
+            from,
+            to,
         } => {
-            let measures = Measures { csv, every };
+            let measures = Measures {
+                csv,
+                every,
+                from,
+                to,
+            };
             let done = write_run_output(alloc, settings, program, &measures, source, out);
             report_outcome(done, err)
         }

@@ -1,36 +1,40 @@
-//! What the commands `events`, `requests` and `measure` write of a run.
+//! What the commands write of a run whose text depends on its settings and program alone.
 
-ghost use Rattle.std.specs.Prelude.{◌≡◌, ◌≢◌};
+ghost use Rattle.std.specs.Prelude.{◌≡◌, ◌≢◌, ◌+◌, ◌++◌, IfErr, OnErr, OnOk};
+ghost use Rattle.ultra_msg.specs.Bytes.{TakesPrefix};
 ghost use Rattle.ultra_measure.specs.Texts.{HasWindows};
-ghost use Rattle.ultra_requests.specs.{EventLines.events_of, RequestTable.requests_of};
+ghost use Rattle.ultra_requests.specs.RequestTable.{requests_of};
 ghost use Rattle.ultra_trace_alone.specs.Faults.{sink_faults};
 ghost use Rattle.ultra_trace.specs.RunFault.TheVariants.{NoThread};
 ghost use Rattle.ultra_inputs.specs.{Failure.write_failures, Traffic.IsStopped};
-ghost use Rattle.ultra_commands.specs.{Outputs.{layout_asked, measures_asked}, Stops.failure_of_run};
+ghost use Rattle.ultra_commands.specs.{Outputs.{cycles_text, layout_asked, measures_asked}, Stops.failure_of_run};
 
 use crate::run_output::RunOutput;
 use crate::trace::failure_of_run;
 use std::alloc::Global;
-use ultra_args::WindowCycles;
+use ultra_args::{CyclesOutput, WindowCycles};
 use ultra_inputs::Failure;
 use ultra_isa::Program;
 use ultra_measure::{Layout, measure};
 use ultra_model::{Config, MOST_CYCLES};
 use ultra_msg::Sink;
 use ultra_requests::{write_events, write_requests};
+use ultra_steps::write_steps;
 use ultra_trace::RunFault;
 
-/// The events of some cycles of a run.
+/// What is written of some cycles of a run.
 #[derive(Drop)]
-pub(crate) struct Events {
+pub(crate) struct CyclesText {
+    /// What it is.
+    pub(crate) output: CyclesOutput,
     /// The first of these cycles.
     pub(crate) from: u32,
     /// The last one.
     pub(crate) to: u32,
 }
 
-impl RunOutput for Events {
-    ghost text = { λ e. events_of e.from e.to };
+impl RunOutput for CyclesText {
+    ghost text = { λ t. cycles_text t.output t.from t.to };
 
     fn write<'p, S: Sink>(
         &self,
@@ -39,10 +43,36 @@ impl RunOutput for Events {
         program: &Program,
         sink: &mut S,
     ) -> Result<(), Failure<'p>> {
-        match write_events(alloc, config, program, self.from, self.to, sink) {
+        match write_cycles(alloc, config, program, self, sink) {
             Ok(()) => Ok(()),
             Err(fault) => Err(failure_of_run_alone(fault)),
         }
+    }
+}
+
+/// Runs a program on a machine of these settings, and writes the text of some cycles to a sink.
+/// After a fault the sink has taken a prefix of it.
+fn write_cycles<S: Sink>(
+    alloc: Global,
+    config: &Config,
+    program: &Program,
+    text: &CyclesText,
+    sink: &mut S,
+) -> Result<(), RunFault>
+    ensures ok { OnOk result (S.taken sink.new ≡ S.taken sink.old
+        ++ cycles_text text.now.output text.now.from text.now.to config.now program.now) }
+    ensures still { OnOk result (S.failures sink.new ≡ S.failures sink.old) }
+    ensures err { OnErr result (TakesPrefix
+        (cycles_text text.now.output text.now.from text.now.to config.now program.now)
+        (S.taken sink.old) (S.taken sink.new)) }
+    ensures counted { IfErr result
+        (λ e. S.failures sink.new ≡ S.failures sink.old + sink_faults e) }
+    ensures alone { IfErr result (λ e. e ≢ NoThread) }
+{
+    let (from, to) = (text.from, text.to);
+    match text.output {
+        CyclesOutput::Events => write_events(alloc, config, program, from, to, sink),
+        CyclesOutput::Steps => write_steps(alloc, config, program, from, to, sink),
     }
 }
 
@@ -73,10 +103,14 @@ pub(crate) struct Measures {
     pub(crate) csv: bool,
     /// How many cycles a window has, if a number is given.
     pub(crate) every: Option<WindowCycles>,
+    /// The first cycle that is measured.
+    pub(crate) from: u32,
+    /// The last one.
+    pub(crate) to: u32,
 }
 
 impl RunOutput for Measures {
-    ghost text = { λ m. measures_asked m.csv m.every };
+    ghost text = { λ m. measures_asked m.csv m.every m.from m.to };
 
     fn write<'p, S: Sink>(
         &self,
@@ -85,7 +119,8 @@ impl RunOutput for Measures {
         program: &Program,
         sink: &mut S,
     ) -> Result<(), Failure<'p>> {
-        match measure(alloc, config, program, self.layout(), sink) {
+        let layout = self.layout();
+        match measure(alloc, config, program, self.from, self.to, layout, sink) {
             Ok(()) => Ok(()),
             Err(fault) => Err(failure_of_run_alone(fault)),
         }

@@ -1,11 +1,8 @@
 //! The command `run`: it writes the trace of a program, or a part of it.
 
-ghost use Rattle.std.specs.Prelude.{◌≡◌, ◌≢◌, ◌+◌, ◌≤◌, ◌++◌, IfErr, IsTrue, OnErr, OnOk};
-ghost use Rattle.ultra_msg.specs.Bytes.{TakesPrefix};
-ghost use Rattle.ultra_trace.specs.RunFault.TheVariants.{NoThread};
-ghost use Rattle.ultra_trace_alone.specs.{Faults.sink_faults, Part.part_of};
+ghost use Rattle.std.specs.Prelude.{◌≡◌, ◌+◌, IfErr, OnOk};
 ghost use Rattle.ultra_inputs.specs.{Failure.{read_failures, write_failures}, Traffic.traffic};
-ghost use Rattle.ultra_commands.specs.{Outputs.{lines_asked, part_asked}, Stops.{failure_of_run, IsAll, RunFails, WroteRun}};
+ghost use Rattle.ultra_commands.specs.{Outputs.{lines_asked, part_asked}, Stops.{failure_of_run, RunFails, WroteRun}};
 
 use std::alloc::Global;
 use std::sync::Wait;
@@ -13,8 +10,6 @@ use std::thread::Threads;
 use ultra_args::{LineFilter, Workers};
 use ultra_inputs::{Failure, Inputs, read_inputs};
 use ultra_io::Source;
-use ultra_isa::Program;
-use ultra_model::{Config, MOST_CYCLES};
 use ultra_msg::Sink;
 use ultra_trace::{CycleLines, Gate, Half, RunFault, TracePart, run_part};
 
@@ -69,54 +64,10 @@ pub(crate) fn run<'p, R: Threads + Wait + Sync, F: Source, O: Sink>(
     let Inputs { config, program } = read_inputs(alloc, settings_path, program_path, source)?;
     // for the prover: a run has at most `MOST_CYCLES` cycles
     let _cycles = config.cycles();
-    match write_part(
-        rt,
-        alloc,
-        &config,
-        &program,
-        part,
-        workers.count() as usize,
-        out,
-    ) {
+    let count = workers.count() as usize;
+    match run_part(rt, alloc, &config, &program, part, count, &OpenGate, out) {
         Ok(()) => Ok(()),
         Err(fault) => Err(failure_of_run(fault)),
-    }
-}
-
-/// Whether a part has all lines of all cycles.
-fn is_whole(part: &TracePart) -> bool
-    ensures { IsTrue result → IsAll part.now }
-{
-    part.from == 0 && part.to == MOST_CYCLES && part.lines == CycleLines::All
-}
-
-/// Runs a program by workers, and writes a part of its trace. The whole trace needs no look at
-/// which cycles are written.
-fn write_part<R: Threads + Wait + Sync, O: Sink>(
-    rt: &R,
-    alloc: Global,
-    config: &Config,
-    program: &Program,
-    part: TracePart,
-    workers: usize,
-    out: &mut O,
-) -> Result<(), RunFault>
-    requires some_worker { 1 ≤ workers }
-    requires most_workers { workers ≤ 64 }
-    ensures ok { OnOk result
-        (O.taken out.new ≡ O.taken out.old ++ part_of part config.now program.now) }
-    ensures still { OnOk result (O.failures out.new ≡ O.failures out.old) }
-    ensures err { OnErr result
-        (TakesPrefix (part_of part config.now program.now) (O.taken out.old) (O.taken out.new)) }
-    ensures counted { IfErr result (λ e. O.failures out.new ≡ O.failures out.old + sink_faults e) }
-    ensures alone { workers ≡ 1 → IfErr result (λ e. e ≢ NoThread) }
-{
-    if is_whole(&part) {
-        // for the prover: a run has at most `MOST_CYCLES` cycles
-        let _cycles = config.cycles();
-        ultra_trace::run(rt, alloc, config, program, workers, &OpenGate, out)
-    } else {
-        run_part(rt, alloc, config, program, part, workers, &OpenGate, out)
     }
 }
 

@@ -1,11 +1,11 @@
 -- how each command ends
 use Rattle.std.proofs.{Common.{◌≡◌, ◌+◌, arith, refl}, lemmas.Result.{IfErr-weaker, on_ok_weaker}}
 use Rattle.std.specs.Prelude.{OnOk}
-use Rattle.ultra_args.specs.declared.Invocation.TheVariants.{Run, Events, Requests, Measure, Order, Explain, Check, Para, List as ListOf, Sweep, Lib}
+use Rattle.ultra_args.specs.declared.Invocation.TheVariants.{Run, Cycles, Requests, Measure, Order, Explain, Check, Para, List as ListOf, Sweep, Lib}
 use Rattle.ultra_command_line.specs.declared.Parsed.TheVariants as parsed
-use Rattle.ultra_requests.specs.{EventLines.events_of, RequestTable.requests_of}
+use Rattle.ultra_requests.specs.RequestTable.{requests_of}
 use Rattle.ultra_inputs.specs.{Failure.read_failures, Traffic.{traffic, WroteText}}
-use Rattle.ultra_commands.specs.{Listing.{WroteListing, ListFails}, Stops.{WroteRun, RunFails}, Order.order_of, Coordination.{WroteProgram, LibFails}, Outputs.{measures_asked, part_asked}, Check.{WroteLegal, CheckFails}, Paracomputer.{WrotePara, ParaFails}, Outcome.ExplainFails}
+use Rattle.ultra_commands.specs.{Listing.{WroteListing, ListFails}, Stops.{WroteRun, RunFails}, Order.order_of, Coordination.{WroteProgram, LibFails}, Outputs.{cycles_text, measures_asked, part_asked}, Check.{WroteLegal, CheckFails}, Paracomputer.{WrotePara, ParaFails}, Outcome.ExplainFails}
 use Rattle.ultra_explain_command.specs.Explanation.{explanation_of}
 use Rattle.ultra_commands.proofs.Endings.{run_refused, check_refused, para_refused, explain_failed, explain_refused, list_refused, lib_refused, lib_unread, command_ended, text_ended, sweep_ended}
 use Rattle.ultra_commands.proofs.carry_out.Goals as goal
@@ -21,15 +21,15 @@ returns-in-Run g c =
     let part = part_asked a.from a.to a.only in
     rw a.is (command_ended (parsed.Invocation (Run a.settings a.program a.workers a.from a.to a.only)) old new _ _ _ _ _ _ _ c.run-done.result (WroteRun part conf prog old new) (RunFails part a.workers conf prog old new) (λ d same. (d, same)) (λ f why. (why, refl)) (λ f. run_refused conf prog old new f part a.workers) did.ok did.err did.read_still did.read_counted did.write_still did.write_counted c.report_outcome.ensures)
 
-pub returns-in-Events : goal.returns-in-Events
-returns-in-Events g c =
-    let a = c.in-Events in
+pub returns-in-Cycles : goal.returns-in-Cycles
+returns-in-Cycles g c =
+    let a = c.in-Cycles in
     let conf = a.settings.now in
     let prog = a.program.now in
     let old = traffic (g.F.Source.files c.args.source.now) (g.O.Sink.taken c.args.out.now) in
     let new = traffic (g.F.Source.files c.write_run_output-done.new.source) (g.O.Sink.taken c.write_run_output-done.new.out) in
     let did = c.write_run_output-done.ensures in
-    rw a.is (text_ended (parsed.Invocation (Events a.settings a.program a.from a.to)) old new _ _ _ _ _ _ _ c.write_run_output-done.result (events_of a.from a.to) conf prog (λ d same. (d, same)) (λ f why. (why, refl)) did.ok did.err did.read_still did.read_counted did.write_still did.write_counted c.report_outcome-in-Events.ensures)
+    rw a.is (text_ended (parsed.Invocation (Cycles a.output a.settings a.program a.from a.to)) old new _ _ _ _ _ _ _ c.write_run_output-done.result (cycles_text a.output a.from a.to) conf prog (λ d same. (d, same)) (λ f why. (why, refl)) did.ok did.err did.read_still did.read_counted did.write_still did.write_counted c.report_outcome-in-Cycles.ensures)
 
 pub returns-in-Requests : goal.returns-in-Requests
 returns-in-Requests g c =
@@ -49,7 +49,7 @@ returns-in-Measure g c =
     let old = traffic (g.F.Source.files c.args.source.now) (g.O.Sink.taken c.args.out.now) in
     let new = traffic (g.F.Source.files c.write_run_output-done-in-Measure.new.source) (g.O.Sink.taken c.write_run_output-done-in-Measure.new.out) in
     let did = c.write_run_output-done-in-Measure.ensures in
-    rw a.is (text_ended (parsed.Invocation (Measure a.settings a.program a.csv a.every)) old new _ _ _ _ _ _ _ c.write_run_output-done-in-Measure.result (measures_asked a.csv a.every) conf prog (λ d same. (d, same)) (λ f why. (why, refl)) did.ok did.err did.read_still did.read_counted did.write_still did.write_counted c.report_outcome-in-Measure.ensures)
+    rw a.is (text_ended (parsed.Invocation (Measure a.settings a.program a.csv a.every a.from a.to)) old new _ _ _ _ _ _ _ c.write_run_output-done-in-Measure.result (measures_asked a.csv a.every a.from a.to) conf prog (λ d same. (d, same)) (λ f why. (why, refl)) did.ok did.err did.read_still did.read_counted did.write_still did.write_counted c.report_outcome-in-Measure.ensures)
 
 pub returns-in-Order : goal.returns-in-Order
 returns-in-Order g c =

@@ -40,7 +40,7 @@ pub returns-clause-err : goal.returns-clause-err
 returns-clause-err g c =
     let inputs = c.in_ok-config.field-0 in
     let gave = c.in_ok-config.ensures.ok in
-    let why = stops c.args.workers c.in-Err.fault (λ one. c.in-Err.ensures.alone (c.count.ensures.value ∙ one)) in
+    let why = stops c.args.workers c.in-Err.fault (λ one. c.in-Err.ensures.alone (c.count-count.ensures.value ∙ one)) in
     let begun = c.in-Err.ensures.err in
     let few : inputs.config.cycles ≤ 1000000 = omega (arith, c.cycles-cycles.ensures.value, c.cycles-cycles.ensures.range.1) in
     rw c.failure_of_run.ensures (record {
