@@ -34,7 +34,7 @@ static FILES: [(&str, &[u8]); 9] = [
 ];
 
 /// The words of each command, with the paths that it reads, in their order, and its status.
-static COMMANDS: [(&[&str], &[&str], u8); 17] = [
+static COMMANDS: [(&[&str], &[&str], u8); 19] = [
     (&["ultra", "run", "c.toml", "p.s"], &["c.toml", "p.s"], 0),
     (
         &["ultra", "run", "c.toml", "p.s", "--workers", "3"],
@@ -49,6 +49,7 @@ static COMMANDS: [(&[&str], &[&str], u8); 17] = [
         0,
     ),
     (&["ultra", "events", "c.toml", "p.s"], &["c.toml", "p.s"], 0),
+    (&["ultra", "steps", "c.toml", "p.s"], &["c.toml", "p.s"], 0),
     (
         &["ultra", "requests", "c.toml", "p.s"],
         &["c.toml", "p.s"],
@@ -56,6 +57,13 @@ static COMMANDS: [(&[&str], &[&str], u8); 17] = [
     ),
     (
         &["ultra", "measure", "c.toml", "p.s"],
+        &["c.toml", "p.s"],
+        0,
+    ),
+    (
+        &[
+            "ultra", "measure", "c.toml", "p.s", "--from", "3", "--to", "5",
+        ],
         &["c.toml", "p.s"],
         0,
     ),
