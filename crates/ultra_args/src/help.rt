@@ -168,7 +168,7 @@ decimal digits.",
 ];
 
 /// The version of the program, and of its trace.
-pub const VERSION: &str = "1.1.0 (trace 2)";
+pub const VERSION: &str = "1.2.0 (trace 2)";
 
 /// The help of the program.
 pub const ULTRA: Help<'static> = Help {
