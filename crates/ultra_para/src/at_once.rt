@@ -20,7 +20,7 @@ pub enum StepReport {
 
 /// Does one step of a processing element. A request that it issues acts on these cells, and its
 /// reply comes, before the step ends.
-pub(crate) fn step_at_once(
+pub fn step_at_once(
     processor: &mut Processor,
     program: &Program,
     cells: &mut [Word],

@@ -8,7 +8,7 @@ mod paracomputer;
 
 ghost use Rattle.ultra_para.specs.Law.{ParacomputerLaw};
 
-pub use at_once::StepReport;
+pub use at_once::{StepReport, step_at_once};
 pub use careful::{first_unfenced, is_careful};
 pub use paracomputer::Para;
 
