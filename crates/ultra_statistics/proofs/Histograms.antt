@@ -10,7 +10,7 @@ use Rattle.ultra_model.proofs.Counting.{count-append}
 use Rattle.ultra_holders.proofs.Skipped.{range_parts}
 use Rattle.ultra_latency.specs.{Latency.{latencies, latencies_of}, declared.open.{OpenRequest.OpenRequest, OpenTable.OpenTable}, Open.{IsOpenLaw, IsOpenTable, open_rows, rows_after, since}}
 use Rattle.ultra_measure.proofs.{Events.count_small, Waiting.{rows_here}}
-use Rattle.ultra_statistics.specs.{Runs.end_of, Queues.numbers_row, Latencies.{answered_in, answered_row, histogram_text, latencies_header, latencies_of_run, IsHistogram}, declared.latencies.LatencyCounts.LatencyCounts}
+use Rattle.ultra_statistics.specs.{Runs.end_of, Queues.numbers_row, Latencies.{answered_in, latency_row, histogram_text, latencies_header, latencies_of_run, IsHistogram}, declared.latencies.LatencyCounts.LatencyCounts}
 use Rattle.ultra_statistics.proofs.Tables.{by_number_same}
 
 pub answered_append : (xs ys : List ℕ) (l : ℕ) → answered_in (xs ++ ys) l ≡ answered_in xs l + answered_in ys l
@@ -32,11 +32,11 @@ pub since_one : (cycle : ℕ) (o : Option OpenRequest) → length (since cycle o
 since_one cycle None = omega arith
 since_one cycle (Some o) = omega arith
 
-pub row_some : (l n : ℕ) → 0 < n → answered_row l n ≡ numbers_row l (n ∷ [])
+pub row_some : (l n : ℕ) → 0 < n → latency_row l n ≡ numbers_row l (n ∷ [])
 row_some l zero h = absurd (omega (arith, h))
 row_some l (suc n) h = refl
 
-pub row_none : (l n : ℕ) → n ≤ 0 → answered_row l n ≡ []
+pub row_none : (l n : ℕ) → n ≤ 0 → latency_row l n ≡ []
 row_none l zero h = refl
 row_none l (suc n) h = absurd (omega (arith, h))
 
@@ -108,5 +108,5 @@ module _ (c : Settings) (program : List Instr) (first : ℕ) where
   pub histogram_is : (to end : ℕ) (t : LatencyCounts) → end ≡ end_of to c program → IsHistogram c program first end t → histogram_text t.counts.items end ≡ latencies_of_run first to c program
   unfolding latencies_of_run
   histogram_is to end t last is =
-      ap (λ rows. latencies_header ++ rows) (by_number_same end (λ l. answered_row l (slice_index t.counts.items l)) (λ l. answered_row l (answered_in (latencies c program first end) l)) (λ l h. ap (answered_row l) (is.counts l)))
-      ∙ ap (λ e. latencies_header ++ by_number e (λ l. answered_row l (answered_in (latencies c program first e) l))) last
+      ap (λ rows. latencies_header ++ rows) (by_number_same end (λ l. latency_row l (slice_index t.counts.items l)) (λ l. latency_row l (answered_in (latencies c program first end) l)) (λ l h. ap (latency_row l) (is.counts l)))
+      ∙ ap (λ e. latencies_header ++ by_number e (λ l. latency_row l (answered_in (latencies c program first e) l))) last

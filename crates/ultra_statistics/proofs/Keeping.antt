@@ -11,7 +11,7 @@ use Rattle.ultra_latency.specs.Few.{HasFewEvents}
 use Rattle.ultra_measure.specs.{Held.{held_at}}
 use Rattle.ultra_measure.proofs.{Events.count_small, Keeping.zeros}
 use Rattle.ultra_statistics.specs.{Ports.{leaving_at, lacks_room, combination_count, is_combination_at}, declared.{counts.{QueueCounts.QueueCounts}, queues.QueueTable.QueueTable}}
-use Rattle.ultra_statistics.specs.Kept.{no_counts, if_so, with_state, window_counts, AreWithState, AreCounted, AreCombinations, HasRoom, HaveRoom, CanTake, IsWithState, IsTable}
+use Rattle.ultra_statistics.specs.Kept.{no_counts, if_so, with_state, window_counts, AreCountsWithState, AreCounted, AreCombinations, HasCountRoom, HaveCountRoom, CanTakeState, IsWithState, IsTable}
 use Rattle.ultra_statistics.proofs.Windows.{no_sum, no_most, no_sum_before, sum_with, most_with, sum_before_with}
 
 -- ---- bounds
@@ -51,17 +51,17 @@ module _ (c : Settings) (range : AreInRange c) (program : List Instr) where
   held_small Reply s x hs hx n = omega (arith, (after_is_sound c range program n).places.replies s x hs hx, range.most_reply_places)
 
   module _ (first ended begun : ℕ) (early : ended ≤ 2 ^ 20) (early_start : begun ≤ 2 ^ 20) where
-    room_at : (held : Held) (s x : ℕ) → s < c.stages → x < size c → HasRoom (window_counts c program first ended begun held s x)
+    room_at : (held : Held) (s x : ℕ) → s < c.stages → x < size c → HasCountRoom (window_counts c program first ended begun held s x)
     room_at held s x hs hx = record {
       left = omega (arith, early_start, total_ones (begun - first) (λ k. leaving_at c held s (after c program (first + k)) x) (λ k. leaving_small c held s (after c program (first + k)) x));
       sum = omega (arith, early, total_more (ended - first) (λ k. held_at held s (after c program (first + k + 1)) x) (λ k. held_small held s x hs hx (first + k + 1)));
       full = omega (arith, early, total_ones (ended - first) (λ k. lacks_room c held s (after c program (first + k + 1)) x) (λ k. full_small c held s (after c program (first + k + 1)) x));
     }
 
-    pub have_room : (held : Held) (qs : List QueueCounts) → AreCounted c program first ended begun held qs → HaveRoom c qs
+    pub have_room : (held : Held) (qs : List QueueCounts) → AreCounted c program first ended begun held qs → HaveCountRoom c qs
     have_room held qs are s x hs hx = rw (are.each s x hs hx) (room_at held s x hs hx)
 
-    pub can_take : (t : QueueTable) → IsTable c program first ended begun t → CanTake c t
+    pub can_take : (t : QueueTable) → IsTable c program first ended begun t → CanTakeState c t
     can_take t is = record {
       places = record { requests = is.requests.count; records = is.records.count; replies = is.replies.count; combined = is.combined.count };
       requests = have_room Request t.requests.items is.requests;
@@ -109,7 +109,7 @@ module _ (c : Settings) (program : List Instr) (first n : ℕ) (m : Machine) (is
       let full = sum_with c program first n m is ended (λ m. lacks_room c held s m x) if_late if_early in
       rw (left, sum, most, full) refl
 
-  next_kind : (held : Held) (old new : List QueueCounts) → AreCounted c program first (n - 1) n held old → AreWithState c held record { ended = ended; begins = begins } m old new → AreCounted c program first n (n + weight begins) held new
+  next_kind : (held : Held) (old new : List QueueCounts) → AreCounted c program first (n - 1) n held old → AreCountsWithState c held record { ended = ended; begins = begins } m old new → AreCounted c program first n (n + weight begins) held new
   next_kind held old new are now = record {
     count = now.count;
     each = λ s x hs hx.

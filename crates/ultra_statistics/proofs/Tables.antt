@@ -5,7 +5,7 @@ use Rattle.std.specs.List.{flat_map, range_with_len}
 use Rattle.ultra_isa.specs.declared.Instr.{Instr}
 use Rattle.ultra_model.specs.{Machine.{Settings, size}, Trace.by_number}
 use Rattle.ultra_block.specs.Held.{TheVariants.{Request, Record}}
-use Rattle.ultra_statistics.specs.{Ports.combination_count, Queues.{numbers_row, queues_header, port_row, port_rows, queues_of}, Runs.end_of, Rows.{counts_row, table_text}, Kept.{IsTable, counts_of, window_counts}}
+use Rattle.ultra_statistics.specs.{Ports.combination_count, Queues.{numbers_row, queues_header, port_row, port_rows, queues_of}, Runs.end_of, Rows.{counts_row, counted_table}, Kept.{IsTable, counts_of, window_counts}}
 use Rattle.ultra_statistics.specs.declared.{counts.QueueCounts.QueueCounts, queues.QueueTable.QueueTable}
 
 flat_same : (f g : ℕ → List ℕ) (a n : ℕ) → ((k : ℕ) → k < a + n → f k ≡ g k) → flat_map f (range_with_len a n) ≡ flat_map g (range_with_len a n)
@@ -47,7 +47,7 @@ module _ (c : Settings) (few : c.stages ≤ 6) (small : size c ≤ 64) (program 
   rows_are : by_number c.stages (λ s. by_number (2 ^ c.stages) (counts_row t end s)) ≡ port_rows c program first end
   rows_are = by_number_same c.stages (λ s. by_number (2 ^ c.stages) (counts_row t end s)) (λ s. by_number (size c) (port_row c program first end s)) (λ s hs. by_number_same (size c) (counts_row t end s) (port_row c program first end s) (λ x hx. row_is s x hs hx))
 
-  pub table_is : (to : ℕ) → end ≡ end_of to c program → table_text c t end ≡ queues_of first to c program
+  pub table_is : (to : ℕ) → end ≡ end_of to c program → counted_table c t end ≡ queues_of first to c program
   unfolding queues_of
   table_is to last =
       ap (λ f. queues_header ++ elim (nat_lt f end) [ true ↦ by_number c.stages (λ s. by_number (2 ^ c.stages) (counts_row t end s)) | false ↦ [] ]) is.from

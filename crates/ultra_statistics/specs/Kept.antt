@@ -36,20 +36,20 @@ with_position c held at m s x qs =
     slice_set qs (s * 64 + x) (with_state c held at m s x (counts_of qs s x))
 
 -- it has come to the counts of all positions
-pub record AreWithState (c : Settings) (held : Held) (at : Moment) (m : Machine)
+pub record AreCountsWithState (c : Settings) (held : Held) (at : Moment) (m : Machine)
     (old new : List QueueCounts) : Type 0 where
   pub count : length new ≡ 384
   pub each : (s x : ℕ) → s < c.stages → x < size c
       → counts_of new s x ≡ with_state c held at m s x (counts_of old s x)
 
 -- each can take one more state
-pub record HasRoom (q : QueueCounts) : Type 0 where
+pub record HasCountRoom (q : QueueCounts) : Type 0 where
   pub left : q.left + 1 < 2 ^ 32
   pub sum : q.sum + 64 < 2 ^ 32
   pub full : q.full + 1 < 2 ^ 32
 
-abbrev pub HaveRoom : Settings → List QueueCounts → Type 0
-HaveRoom c qs = (s x : ℕ) → s < c.stages → x < size c → HasRoom (counts_of qs s x)
+abbrev pub HaveCountRoom : Settings → List QueueCounts → Type 0
+HaveCountRoom c qs = (s x : ℕ) → s < c.stages → x < size c → HasCountRoom (counts_of qs s x)
 
 -- a table has the places of all ports
 pub record HasPlaces (t : QueueTable) : Type 0 where
@@ -59,19 +59,19 @@ pub record HasPlaces (t : QueueTable) : Type 0 where
   pub combined : length t.combined.items ≡ 384
 
 -- and can take one more state
-pub record CanTake (c : Settings) (t : QueueTable) : Type 0 where
+pub record CanTakeState (c : Settings) (t : QueueTable) : Type 0 where
   pub places : HasPlaces t
-  pub requests : HaveRoom c t.requests.items
-  pub records : HaveRoom c t.records.items
-  pub replies : HaveRoom c t.replies.items
+  pub requests : HaveCountRoom c t.requests.items
+  pub records : HaveCountRoom c t.records.items
+  pub replies : HaveCountRoom c t.replies.items
 
 -- a state has come to a table
 pub record IsWithState (c : Settings) (at : Moment) (m : Machine) (old new : QueueTable)
     : Type 0 where
   pub from : new.from ≡ old.from
-  pub requests : AreWithState c Request at m old.requests.items new.requests.items
-  pub records : AreWithState c Record at m old.records.items new.records.items
-  pub replies : AreWithState c Reply at m old.replies.items new.replies.items
+  pub requests : AreCountsWithState c Request at m old.requests.items new.requests.items
+  pub records : AreCountsWithState c Record at m old.records.items new.records.items
+  pub replies : AreCountsWithState c Reply at m old.replies.items new.replies.items
   pub combined : new.combined.items ≡ old.combined.items
 
 module _ (c : Settings) (program : List Instr) (first ended begun : ℕ) where

@@ -9,9 +9,9 @@ use Rattle.ultra_statistics.specs.{Queues.numbers_row, Runs.end_of, declared.lat
 abbrev pub answered_in : List ℕ → ℕ → ℕ
 answered_in xs l = count (λ x. x == l) xs
 
-abbrev pub answered_row : ℕ → ℕ → List ℕ
-answered_row l zero = []
-answered_row l (suc n) = numbers_row l (suc n ∷ [])
+abbrev pub latency_row : ℕ → ℕ → List ℕ
+latency_row l zero = []
+latency_row l (suc n) = numbers_row l (suc n ∷ [])
 
 abbrev pub latencies_header : List ℕ
 latencies_header = codes "latency,answered" ++ newline
@@ -21,12 +21,12 @@ unfoldable pub latencies_of_run : ℕ → ℕ → Settings → List Instr → Li
 latencies_of_run from to c program =
     let end = end_of to c program in
     latencies_header
-    ++ by_number end (λ l. answered_row l (answered_in (latencies c program from end) l))
+    ++ by_number end (λ l. latency_row l (answered_in (latencies c program from end) l))
 
 -- ---- as they are counted while the run goes on
 abbrev pub histogram_text : List ℕ → ℕ → List ℕ
 histogram_text counts end =
-    latencies_header ++ by_number end (λ l. answered_row l (slice_index counts l))
+    latencies_header ++ by_number end (λ l. latency_row l (slice_index counts l))
 
 pub record IsHistogram (c : Settings) (program : List Instr) (first ended : ℕ)
     (t : LatencyCounts) : Type 0 where

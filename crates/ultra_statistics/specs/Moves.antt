@@ -10,9 +10,9 @@ module _ (c : Settings) (m : Machine) where
 
   -- how many requests, 1 or 0, leave the queue at memory-side position x of stage s in phase C. One
   -- that stands for several that have combined is one
-  abbrev pub requests_leaving : ℕ → ℕ → ℕ
-  requests_leaving s x = weight (is_some (leaving_request c before_requests s x))
+  abbrev pub leaving_requests_at : ℕ → ℕ → ℕ
+  leaving_requests_at s x = weight (is_some (leaving_request c before_requests s x))
 
   -- how many replies, 1 or 0, leave the queue at PE-side position y of stage s in phase A
-  abbrev pub replies_leaving : ℕ → ℕ → ℕ
-  replies_leaving s y = weight (is_some (leaving_reply c m s y))
+  abbrev pub leaving_replies_at : ℕ → ℕ → ℕ
+  leaving_replies_at s y = weight (is_some (leaving_reply c m s y))

@@ -5,13 +5,13 @@ use Rattle.ultra_isa.specs.declared.Instr.{Instr}
 use Rattle.ultra_model.specs.{Machine.{Settings, Machine, replies_at}, Phases.{after, has_request_room}, Balance.{total, weight}}
 use Rattle.ultra_block.specs.Held.{Held, TheVariants.{Reply, Request, Record}}
 use Rattle.ultra_measure.specs.{Held.{held_at, full_waits}, Window.{sum_of, most_of, event_count}}
-use Rattle.ultra_statistics.specs.Moves.{requests_leaving, replies_leaving}
+use Rattle.ultra_statistics.specs.Moves.{leaving_requests_at, leaving_replies_at}
 
 -- how many messages leave it in the next cycle; no record leaves a wait buffer for another place
 abbrev pub leaving_at : Settings → Held → ℕ → Machine → ℕ → ℕ
-leaving_at c Request s m x = requests_leaving c m s x
+leaving_at c Request s m x = leaving_requests_at c m s x
 leaving_at c Record s m x = 0
-leaving_at c Reply s m x = replies_leaving c m s x
+leaving_at c Reply s m x = leaving_replies_at c m s x
 
 -- 1 where it lacks the free places without which nothing more comes: 2 in a queue toward memory, 1
 -- in a wait buffer that has places, and 4 in a queue toward the processing elements

@@ -7,11 +7,11 @@ use Rattle.ultra_block.specs.Held.{TheVariants.{Reply, Request, Record}}
 use Rattle.ultra_statistics.specs.{Ports.{left_count, held_sum, held_most, full_count, combination_count}, Runs.end_of}
 
 -- a row of numbers
-abbrev pub next_number : ℕ → List ℕ
-next_number n = codes "," ++ decimal n
+abbrev pub number_behind_comma : ℕ → List ℕ
+number_behind_comma n = codes "," ++ decimal n
 
 abbrev pub numbers_row : ℕ → List ℕ → List ℕ
-numbers_row n ns = decimal n ++ flat_map next_number ns ++ newline
+numbers_row n ns = decimal n ++ flat_map number_behind_comma ns ++ newline
 
 abbrev pub queues_header : List ℕ
 queues_header =

@@ -16,8 +16,8 @@ counts_row t end s x =
     ∷ replies.left ∷ replies.sum ∷ replies.most ∷ replies.full ∷ [])
 
 -- of a window that ends before cycle `end`
-abbrev pub table_text : Settings → QueueTable → ℕ → List ℕ
-table_text c t end =
+abbrev pub counted_table : Settings → QueueTable → ℕ → List ℕ
+counted_table c t end =
     queues_header ++ elim (nat_lt t.from end) [
       | true ↦ by_number c.stages (λ s. by_number (2 ^ c.stages) (counts_row t end s))
       | false ↦ []

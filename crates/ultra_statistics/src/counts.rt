@@ -3,7 +3,7 @@
 ghost use Rattle.std.specs.Prelude.{◌≡◌, ℕ, ◌+◌, ◌-◌, ◌*◌, ◌^◌, ◌<◌, ◌≤◌, length, max};
 ghost use Rattle.ultra_model.specs.Balance.{weight};
 ghost use Rattle.ultra_measure.specs.{Held.{AreUnitsWith, held_at}, Nets.IsNetOf};
-ghost use Rattle.ultra_statistics.specs.{Kept.{AreWithState, HasRoom, HaveRoom, counts_of, if_so, with_position, with_state}, Ports.{leaving_at, lacks_room}};
+ghost use Rattle.ultra_statistics.specs.{Kept.{AreCountsWithState, HasCountRoom, HaveCountRoom, counts_of, if_so, with_position, with_state}, Ports.{leaving_at, lacks_room}};
 
 use crate::moves::{reply_leaves, request_leaves};
 use ultra_block::{Blocks, Held};
@@ -45,8 +45,9 @@ pub(crate) fn add_state<const SMALL: bool>(
     requires one { blocks.now.count ≡ 1 }
     requires net { IsNetOf SMALL net blocks.now.config }
     requires count { length counts.old ≡ 384 }
-    requires room { HaveRoom blocks.now.config counts.old }
-    ensures { AreWithState blocks.now.config held at blocks.now.machine counts.old counts.new }
+    requires room { HaveCountRoom blocks.now.config counts.old }
+    ensures { AreCountsWithState blocks.now.config held at blocks.now.machine
+        counts.old counts.new }
 {
     let holders = blocks.holding_of_one(held);
     for stage in 0..net.stages() {
@@ -71,7 +72,7 @@ fn add_stage<const SMALL: bool>(
     requires holders { AreUnitsWith blocks.now held holders.now }
     requires count { length counts.old ≡ 384 }
     requires room { (x : ℕ) → x < 2 ^ blocks.now.config.stages →
-        HasRoom (counts_of counts.old stage x) }
+        HasCountRoom (counts_of counts.old stage x) }
     ensures count { length counts.new ≡ 384 }
     ensures each { (x : ℕ) → x < 2 ^ blocks.now.config.stages → counts_of counts.new stage x ≡
         with_state blocks.now.config held at blocks.now.machine stage x
@@ -104,8 +105,8 @@ fn add_switch(
     requires stage { stage < blocks.now.config.stages }
     requires switch { switch < 2 ^ (blocks.now.config.stages - 1) }
     requires count { length counts.old ≡ 384 }
-    requires room { HasRoom (counts_of counts.old stage (2 * switch)) }
-    requires room_1 { HasRoom (counts_of counts.old stage (2 * switch + 1)) }
+    requires room { HasCountRoom (counts_of counts.old stage (2 * switch)) }
+    requires room_1 { HasCountRoom (counts_of counts.old stage (2 * switch + 1)) }
     ensures { counts.new ≡
         with_position blocks.now.config held at blocks.now.machine stage (2 * switch + 1)
         (with_position blocks.now.config held at blocks.now.machine stage (2 * switch)
@@ -133,7 +134,7 @@ fn add_position(
     requires stage { stage < blocks.now.config.stages }
     requires position { position < 2 ^ blocks.now.config.stages }
     requires count { length counts.old ≡ 384 }
-    requires room { HasRoom (counts_of counts.old stage position) }
+    requires room { HasCountRoom (counts_of counts.old stage position) }
     ensures { counts.new ≡
         with_position blocks.now.config held at blocks.now.machine stage position counts.old }
 {
@@ -160,7 +161,7 @@ impl QueueCounts {
     /// The counts with what is seen in a state of the machine.
     #[inline(always)]
     fn with(self, seen: Seen, at: Moment) -> QueueCounts
-        requires room { HasRoom self }
+        requires room { HasCountRoom self }
         requires few { seen.held ≤ 64 }
         ensures { result ≡ record {
           left = self.left + if_so at.begins (weight seen.leaves);

@@ -7,7 +7,7 @@ ghost use Rattle.ultra_io.specs.TextBuffer.{Writes};
 ghost use Rattle.ultra_model.specs.{Machine.Settings, Balance.weight, Trace.by_number};
 ghost use Rattle.ultra_latency.specs.Open.{latencies_along, rows_after, since, HavePlaces};
 ghost use Rattle.ultra_trace_alone.specs.{declared.fault.RunFault.TheVariants.{NoMemory, NoThread}, Faults.sink_faults};
-ghost use Rattle.ultra_statistics.specs.Latencies.{answered_in, answered_row, histogram_text, latencies_of_run, IsHistogram};
+ghost use Rattle.ultra_statistics.specs.Latencies.{answered_in, latency_row, histogram_text, latencies_of_run, IsHistogram};
 
 use crate::observer::{Observer, observe_run};
 use crate::rows::put_numbers;
@@ -207,7 +207,7 @@ fn put_histogram<S: Sink>(buffer: &mut TextBuffer<'_, S>, counts: &[u32], end: u
 /// Writes the rows of the latencies below `end`.
 fn put_bars<S: Sink>(buffer: &mut TextBuffer<'_, S>, counts: &[u32], end: u32)
     ensures { Writes S.taken S.failures
-        (by_number end (λ l. answered_row l (slice_index counts.now l))) buffer.old buffer.new }
+        (by_number end (λ l. latency_row l (slice_index counts.now l))) buffer.old buffer.new }
 {
     for latency in 0..end {
         put_bar(buffer, latency, answered_at(counts, latency));
@@ -226,7 +226,7 @@ fn answered_at(counts: &[u32], latency: u32) -> u32
 
 /// Writes the row of a latency, if it occurred.
 fn put_bar<S: Sink>(buffer: &mut TextBuffer<'_, S>, latency: u32, answered: u32)
-    ensures { Writes S.taken S.failures (answered_row latency answered) buffer.old buffer.new }
+    ensures { Writes S.taken S.failures (latency_row latency answered) buffer.old buffer.new }
 {
     if answered > 0 {
         put_numbers(buffer, latency, &[answered]);

@@ -7,7 +7,7 @@ ghost use Rattle.ultra_io.specs.TextBuffer.{Writes};
 ghost use Rattle.ultra_model.specs.{Machine.Settings, Balance.{count, weight}, Trace.by_number};
 ghost use Rattle.ultra_topology.specs.Numbers.{IsSmall};
 ghost use Rattle.ultra_trace_alone.specs.{declared.fault.RunFault.TheVariants.{NoMemory, NoThread}, BlocksAfter.IsAfter, Faults.sink_faults};
-ghost use Rattle.ultra_statistics.specs.{Kept.{CanTake, HasPlaces, IsTable, IsWithState, if_so, no_counts}, Ports.is_combination_at, Queues.queues_of, Rows.{counts_row, table_text}};
+ghost use Rattle.ultra_statistics.specs.{Kept.{CanTakeState, HasPlaces, IsTable, IsWithState, if_so, no_counts}, Ports.is_combination_at, Queues.queues_of, Rows.{counts_row, counted_table}};
 
 use crate::counts::{Moment, QueueCounts, add_state};
 use crate::observer::{Observer, observe_run};
@@ -115,7 +115,7 @@ impl QueueTable {
     /// Adds a state of a machine. Small machines use a specialised copy.
     fn add(&mut self, blocks: &Blocks, at: Moment)
         requires one { blocks.now.count ≡ 1 }
-        requires room { CanTake blocks.now.config self.old }
+        requires room { CanTakeState blocks.now.config self.old }
         ensures { IsWithState blocks.now.config at blocks.now.machine self.old self.new }
     {
         let net = blocks.config().net();
@@ -132,7 +132,7 @@ impl QueueTable {
         requires one { blocks.now.count ≡ 1 }
         requires net { net ≡ blocks.now.config.stages }
         requires small { SMALL ≡ true → IsSmall net }
-        requires room { CanTake blocks.now.config self.old }
+        requires room { CanTakeState blocks.now.config self.old }
         ensures { IsWithState blocks.now.config at blocks.now.machine self.old self.new }
     {
         // for the prover: a stage has an even number of positions, at most 64
@@ -226,9 +226,9 @@ fn write_table<S: Sink>(
 ) -> Result<(), SinkFault>
     requires { HasPlaces table.now }
     ensures ok { OnOk result
-        (S.taken sink.new ≡ S.taken sink.old ++ table_text config.now table.now end) }
+        (S.taken sink.new ≡ S.taken sink.old ++ counted_table config.now table.now end) }
     ensures still { OnOk result (S.failures sink.new ≡ S.failures sink.old) }
-    ensures err { OnErr result (TakesPrefix (table_text config.now table.now end)
+    ensures err { OnErr result (TakesPrefix (counted_table config.now table.now end)
         (S.taken sink.old) (S.taken sink.new)) }
     ensures counted { OnErr result (S.failures sink.new ≡ S.failures sink.old + 1) }
 {
@@ -240,7 +240,7 @@ fn write_table<S: Sink>(
 /// Writes the table of a window that ends before cycle `end`.
 fn put_table<S: Sink>(buffer: &mut TextBuffer<'_, S>, table: &QueueTable, config: &Config, end: u32)
     requires { HasPlaces table.now }
-    ensures { Writes S.taken S.failures (table_text config.now table.now end)
+    ensures { Writes S.taken S.failures (counted_table config.now table.now end)
         buffer.old buffer.new }
 {
     put_header(buffer);

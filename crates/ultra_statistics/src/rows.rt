@@ -3,7 +3,7 @@
 ghost use Rattle.std.specs.Prelude.{◌≡◌, ◌++◌};
 ghost use Rattle.std.specs.List.{flat_map};
 ghost use Rattle.ultra_io.specs.TextBuffer.{Writes};
-ghost use Rattle.ultra_statistics.specs.Queues.{next_number, numbers_row, queues_header};
+ghost use Rattle.ultra_statistics.specs.Queues.{number_behind_comma, numbers_row, queues_header};
 
 use ultra_io::TextBuffer;
 use ultra_msg::Sink;
@@ -32,7 +32,7 @@ pub(crate) fn put_numbers<S: Sink>(buffer: &mut TextBuffer<'_, S>, first: u32, o
 /// Writes numbers, each behind a comma.
 fn put_others<S: Sink>(buffer: &mut TextBuffer<'_, S>, numbers: &[u32])
     ensures { Writes S.taken S.failures
-        (flat_map next_number numbers.now) buffer.old buffer.new }
+        (flat_map number_behind_comma numbers.now) buffer.old buffer.new }
 {
     for number in numbers {
         put_next(buffer, *number);
@@ -41,7 +41,7 @@ fn put_others<S: Sink>(buffer: &mut TextBuffer<'_, S>, numbers: &[u32])
 
 /// Writes a number behind a comma.
 fn put_next<S: Sink>(buffer: &mut TextBuffer<'_, S>, number: u32)
-    ensures { Writes S.taken S.failures (next_number number) buffer.old buffer.new }
+    ensures { Writes S.taken S.failures (number_behind_comma number) buffer.old buffer.new }
 {
     buffer.put(b",");
     buffer.put_number(number);

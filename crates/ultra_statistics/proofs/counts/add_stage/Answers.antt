@@ -1,7 +1,7 @@
 use Rattle.std.proofs.Common.{ℕ, ◌/◌, false, ◌≡◌, ◌+◌, ◌-◌, ◌*◌, ◌^◌, ◌<◌, ◌≤◌, ap, ◌∙◌, sym, subst, arith}
 use Rattle.ultra_topology.specs.{Numbers.switch_number, Set.has_unit}
 use Rattle.ultra_holders.specs.Holders.{holders_left, numbers_in}
-use Rattle.ultra_statistics.specs.{Kept.{HasRoom, with_state}, declared.counts.QueueCounts.QueueCounts}
+use Rattle.ultra_statistics.specs.{Kept.{HasCountRoom, with_state}, declared.counts.QueueCounts.QueueCounts}
 use Rattle.ultra_statistics.proofs.{Idle.idle, Standing.{none_walked, next_below, next_same, one_walked, all_walked}}
 use Rattle.ultra_statistics.proofs.counts.add_stage.Goals as goal
 
@@ -31,8 +31,8 @@ add_switch-requires g c =
       stage = c.requires.stage;
       switch = below;
       count = are.count;
-      room = subst HasRoom (sym (same _ (omega arith))) (c.requires.room _ (omega (arith, below, c.requires.net.even)));
-      room_1 = subst HasRoom (sym (same _ (omega arith))) (c.requires.room _ (omega (arith, below, c.requires.net.even)));
+      room = subst HasCountRoom (sym (same _ (omega arith))) (c.requires.room _ (omega (arith, below, c.requires.net.even)));
+      room_1 = subst HasCountRoom (sym (same _ (omega arith))) (c.requires.room _ (omega (arith, below, c.requires.net.even)));
     }
 
 pub loop-switch-preserved : goal.loop-switch-preserved

@@ -1,5 +1,5 @@
 use Rattle.std.proofs.Common.{ℕ, ◌≡◌, ◌+◌, ◌-◌, ◌*◌, ◌^◌, ◌≤◌, ◌<◌, subst, ◌⊎◌, inl, inr, refl, arith, ◌∙◌, ap, sym}
-use Rattle.ultra_statistics.specs.{Kept.{HasRoom, counts_of, with_state}}
+use Rattle.ultra_statistics.specs.{Kept.{HasCountRoom, counts_of, with_state}}
 use Rattle.ultra_statistics.proofs.counts.add_state.Goals as goal
 
 pub loop-stage-init : goal.loop-stage-init
@@ -15,7 +15,7 @@ split s n h = grind arith
 pub add_stage-requires-clause-room : goal.add_stage-requires-clause-room
 add_stage-requires-clause-room g c x hx =
     let few : 2 ^ (c.args.blocks.now.config.stages - 1) ≤ 32 = c.requires.net.few in
-    subst HasRoom (sym (c.loop-stage.invariant.rest c.loop-stage.stage x (omega arith) (omega (arith, hx, few, c.requires.net.even)))) (c.requires.room c.loop-stage.stage x (omega (arith, c.loop-stage-test.true, c.stages-stage-end.ensures.value, c.requires.net.is)) hx)
+    subst HasCountRoom (sym (c.loop-stage.invariant.rest c.loop-stage.stage x (omega arith) (omega (arith, hx, few, c.requires.net.even)))) (c.requires.room c.loop-stage.stage x (omega (arith, c.loop-stage-test.true, c.stages-stage-end.ensures.value, c.requires.net.is)) hx)
 
 pub loop-stage-preserved : goal.loop-stage-preserved
 loop-stage-preserved g c =
