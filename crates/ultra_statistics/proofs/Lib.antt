@@ -8,5 +8,6 @@ pub mod Keeping
 pub mod Tables
 mod WorkedQueues
 pub mod Histograms
+pub mod EventLaws
 pub mod PortLaws
 mod WorkedLatencies

@@ -1,10 +1,12 @@
 -- sums and maxima over positions and over cycles, in either order
 use Rattle.std.proofs.Common.{ℕ, zero, suc, ◌≡◌, ◌+◌, ◌-◌, max, refl, sym, ap, ◌∙◌, arith}
-use Rattle.ultra_model.specs.{Machine.{size}, Phases.after, Balance.total}
+use Rattle.ultra_model.specs.{Machine.{size}, Phases.after, Balance.{count, total}}
 use Rattle.ultra_model.proofs.Sums.{total_none, total_next, total_same, total_plus, total_zero}
-use Rattle.ultra_measure.specs.{Held.{held_at, full_waits}, Window.greatest}
+use Rattle.ultra_latency.specs.Latency.{latencies}
+use Rattle.ultra_measure.specs.{Held.{held_at, full_waits}, Window.greatest, EventKinds.is_combination_in}
 use Rattle.ultra_measure.proofs.More.{greatest_same}
-use Rattle.ultra_statistics.specs.PortLaw.{PortLaw}
+use Rattle.ultra_statistics.specs.{Ports.is_combination_at, PortLaw.PortLaw, LatencyLaw.LatencyLaw}
+use Rattle.ultra_statistics.proofs.EventLaws.{as_many, all_below, by_latency, by_position, events_below}
 
 pub total_swap : (n m : ℕ) (f : ℕ → ℕ → ℕ) → total n (λ x. total m (λ k. f k x)) ≡ total m (λ k. total n (f k))
 total_swap zero m f = total_none (λ x. total m (λ k. f k x)) ∙ sym (total_zero m (λ k. total 0 (f k)) (λ k h. total_none (f k)))
@@ -43,4 +45,13 @@ port_law c program from to s = record {
   sums = λ held. total_swap (size c) (to - from) (λ k x. held_at held s (after c program (from + k + 1)) x);
   most = λ held. greatest_swap (size c) (to - from) (λ k x. held_at held s (after c program (from + k + 1)) x);
   full_waits = total_swap (size c) (to - from) (λ k x. full_waits c s (after c program (from + k + 1)) x);
+  combined =
+      total_swap (size c) (to - from) (λ k x. count (is_combination_at s x) (after c program (from + k + 1)).events)
+      ∙ total_same (to - from) (λ k. total (size c) (λ x. count (is_combination_at s x) (after c program (from + k + 1)).events)) (λ k. count (is_combination_in s) (after c program (from + k + 1)).events) (λ k h. by_position (size c) s (after c program (from + k + 1)).events (events_below c program (from + k)));
+}
+
+pub latency_law : LatencyLaw
+latency_law c program from to = record {
+  deliveries = as_many c program from to;
+  rows = by_latency to (latencies c program from to) (all_below c program from to);
 }

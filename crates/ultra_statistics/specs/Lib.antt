@@ -6,3 +6,4 @@ pub mod Queues
 pub mod Rows
 pub mod Latencies
 pub mod PortLaw
+pub mod LatencyLaw

@@ -10,5 +10,5 @@ mod queues;
 mod rows;
 
 pub use latencies::write_latencies;
-pub use law::law_of_ports;
+pub use law::{law_of_latencies, law_of_ports};
 pub use queues::write_queues;
