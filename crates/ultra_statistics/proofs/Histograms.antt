@@ -1,5 +1,5 @@
 -- how often each latency occurred, over one cycle more
-use Rattle.std.proofs.Common.{ℕ, zero, suc, List, [], ◌∷◌, ◌++◌, ◌≡◌, ◌+◌, ◌-◌, ◌*◌, ◌^◌, ◌<◌, ◌≤◌, length, get_or, length-append, append-nil, refl, sym, ap, ◌∙◌, arith}
+use Rattle.std.proofs.Common.{ℕ, zero, suc, List, [], ◌∷◌, ◌++◌, ◌≡◌, ◌+◌, ◌-◌, ◌*◌, ◌^◌, ◌<◌, ◌≤◌, length, get_or, length-append, append-nil, refl, sym, ap, ◌∙◌, subst, arith}
 use Rattle.std.specs.Prelude.{Option, Some, None, ◌==◌, option_to_list, slice_index, vec_capacity}
 use Rattle.std.specs.List.{flat_map, range_with_len}
 use Rattle.std.proofs.lemmas.List.Concat.{flat_map-append}
@@ -10,8 +10,8 @@ use Rattle.ultra_model.proofs.Counting.{count-append}
 use Rattle.ultra_holders.proofs.Skipped.{range_parts}
 use Rattle.ultra_latency.specs.{Latency.{latencies, latencies_of}, declared.open.{OpenRequest.OpenRequest, OpenTable.OpenTable}, Open.{IsOpenLaw, IsOpenTable, open_rows, rows_after, since}}
 use Rattle.ultra_measure.proofs.{Events.count_small, Waiting.{rows_here}}
-use Rattle.ultra_statistics.specs.{Runs.end_of, Queues.numbers_row, Latencies.{answered_in, latency_row, histogram_text, latencies_header, latencies_of_run, IsHistogram}, declared.latencies.LatencyCounts.LatencyCounts}
-use Rattle.ultra_statistics.proofs.Tables.{by_number_same}
+use Rattle.ultra_statistics.specs.{Runs.end_of, Queues.numbers_row, Latencies.{answered_in, count_of, latency_row, histogram_text, latencies_header, latencies_of_run, AreByLatency, IsHistogram}, declared.latencies.{LatencyCount.LatencyCount, LatencyCounts.LatencyCounts}}
+use Rattle.ultra_statistics.proofs.{CountLists.{none_beyond, rows_are}, EventLaws.all_below}
 
 pub answered_append : (xs ys : List ℕ) (l : ℕ) → answered_in (xs ++ ys) l ≡ answered_in xs l + answered_in ys l
 answered_append xs ys l = count-append (λ x. x == l) xs ys
@@ -32,20 +32,8 @@ pub since_one : (cycle : ℕ) (o : Option OpenRequest) → length (since cycle o
 since_one cycle None = omega arith
 since_one cycle (Some o) = omega arith
 
-pub row_some : (l n : ℕ) → 0 < n → latency_row l n ≡ numbers_row l (n ∷ [])
-row_some l zero h = absurd (omega (arith, h))
-row_some l (suc n) h = refl
-
-pub row_none : (l n : ℕ) → n ≤ 0 → latency_row l n ≡ []
-row_none l zero h = refl
-row_none l (suc n) h = absurd (omega (arith, h))
-
--- a zero at the end
-pub zero_behind : (xs : List ℕ) (k : ℕ) → get_or (xs ++ 0 ∷ []) k 0 ≡ get_or xs k 0
-zero_behind [] zero = refl
-zero_behind [] (suc k) = refl
-zero_behind (x ∷ xs) zero = refl
-zero_behind (x ∷ xs) (suc k) = zero_behind xs k
+pub none_by_latency : (ps : List LatencyCount) → ps ≡ [] → AreByLatency 0 ps
+none_by_latency ps is = subst (λ (qs : List LatencyCount). AreByLatency 0 qs) (sym is) tt
 
 made_again : (n : ℕ) → (n ≡ 0 → ⊥) → n - 1 + 1 ≡ n
 made_again zero h = absurd (h refl)
@@ -74,8 +62,8 @@ module _ (c : Settings) (program : List Instr) (first : ℕ) where
   pub counts_fit : (few : (n : ℕ) → length (latencies_of c program n) ≤ 64) (to more : ℕ) → to ≤ 2 ^ 20 → more ≤ 960 → (l : ℕ) → answered_in (latencies c program first to) l + more < 2 ^ 32
   counts_fit few to more early small l = omega (arith, early, small, answered_small (latencies c program first to) l, few_along few first (to - first))
 
-  pub none_counted : (ns : List ℕ) → ns ≡ [] → (l : ℕ) → slice_index ns l ≡ answered_in (latencies c program first 0) l
-  none_counted ns is l = ap (λ xs. slice_index xs l) is ∙ ap (λ xs. answered_in xs l) (sym (none_waited 0 (omega arith)))
+  pub none_counted : (ps : List LatencyCount) → ps ≡ [] → (l : ℕ) → count_of ps l ≡ answered_in (latencies c program first 0) l
+  none_counted ps is l = ap (λ xs. count_of xs l) is ∙ ap (λ xs. answered_in xs l) (sym (none_waited 0 (omega arith)))
 
   -- ---- after cycle `made - 1`
   module _ (made : ℕ) (some : made ≡ 0 → ⊥) where
@@ -92,10 +80,10 @@ module _ (c : Settings) (program : List Instr) (first : ℕ) where
         capacity = capacity ∙ are.capacity;
       }
 
-    pub same_counts_early : made - 1 < first → (ns : List ℕ) → ((l : ℕ) → slice_index ns l ≡ answered_in (latencies c program first (made - 1)) l) → (l : ℕ) → slice_index ns l ≡ answered_in (latencies c program first made) l
+    pub same_counts_early : made - 1 < first → (ns : List LatencyCount) → ((l : ℕ) → count_of ns l ≡ answered_in (latencies c program first (made - 1)) l) → (l : ℕ) → count_of ns l ≡ answered_in (latencies c program first made) l
     same_counts_early early ns are l = are l ∙ ap (λ xs. answered_in xs l) (none_waited (made - 1) (omega (arith, early)) ∙ sym (none_waited made (omega (arith, early, again))))
 
-    pub counts_next : first ≤ made - 1 → (shown : List ℕ) → shown ≡ latencies_of c program (made - 1) → (old new : List ℕ) → ((l : ℕ) → slice_index old l ≡ answered_in (latencies c program first (made - 1)) l) → ((l : ℕ) → slice_index new l ≡ slice_index old l + answered_in shown l) → (l : ℕ) → slice_index new l ≡ answered_in (latencies c program first made) l
+    pub counts_next : first ≤ made - 1 → (shown : List ℕ) → shown ≡ latencies_of c program (made - 1) → (old new : List LatencyCount) → ((l : ℕ) → count_of old l ≡ answered_in (latencies c program first (made - 1)) l) → ((l : ℕ) → count_of new l ≡ count_of old l + answered_in shown l) → (l : ℕ) → count_of new l ≡ answered_in (latencies c program first made) l
     counts_next order shown is old new are now l =
         now l
         ∙ ap (λ v. v + answered_in shown l) (are l)
@@ -105,8 +93,9 @@ module _ (c : Settings) (program : List Instr) (first : ℕ) where
         ∙ ap (λ k. answered_in (latencies c program first k) l) again
 
   -- ---- the text
-  pub histogram_is : (to end : ℕ) (t : LatencyCounts) → end ≡ end_of to c program → IsHistogram c program first end t → histogram_text t.counts.items end ≡ latencies_of_run first to c program
+  pub histogram_is : (to end : ℕ) (t : LatencyCounts) → end ≡ end_of to c program → IsHistogram c program first end t → histogram_text t.counts.items ≡ latencies_of_run first to c program
   unfolding latencies_of_run
   histogram_is to end t last is =
-      ap (λ rows. latencies_header ++ rows) (by_number_same end (λ l. latency_row l (slice_index t.counts.items l)) (λ l. latency_row l (answered_in (latencies c program first end) l)) (λ l h. ap (latency_row l) (is.counts l)))
+      let xs = latencies c program first end in
+      ap (λ rows. latencies_header ++ rows) (sym (rows_are (answered_in xs) end 0 t.counts.items is.by_latency (λ l h. sym (is.counts l)) (λ l h. none_beyond end l xs (all_below c program first end) (omega (arith, h)))))
       ∙ ap (λ e. latencies_header ++ by_number e (λ l. latency_row l (answered_in (latencies c program first e) l))) last

@@ -7,6 +7,7 @@ pub mod Standing
 pub mod Keeping
 pub mod Tables
 mod WorkedQueues
+pub mod CountLists
 pub mod Histograms
 pub mod EventLaws
 pub mod PortLaws

@@ -1,13 +1,14 @@
 //! How long the requests of a run took.
 
-ghost use Rattle.std.specs.Prelude.{◌≡◌, ◌≢◌, ℕ, List, ◌+◌, ◌^◌, ◌<◌, ◌≤◌, ◌++◌, ◌==◌, length, slice_index, vec_capacity, OnOk, OnErr, IfOk, IfErr};
+ghost use Rattle.std.specs.Prelude.{◌≡◌, ◌≢◌, ℕ, List, ◌+◌, ◌^◌, ◌<◌, ◌≤◌, ◌++◌, ◌==◌, length, slice_index_or, vec_capacity, OnOk, OnErr, IfOk, IfErr};
+ghost use Rattle.std.specs.List.{flat_map};
 ghost use Rattle.ultra_msg.specs.Bytes.{TakesPrefix};
 ghost use Rattle.ultra_isa.specs.declared.Instr.{Instr};
 ghost use Rattle.ultra_io.specs.TextBuffer.{Writes};
-ghost use Rattle.ultra_model.specs.{Machine.Settings, Balance.weight, Trace.by_number};
+ghost use Rattle.ultra_model.specs.{Machine.Settings, Balance.weight};
 ghost use Rattle.ultra_latency.specs.Open.{latencies_along, rows_after, since, HavePlaces};
 ghost use Rattle.ultra_trace_alone.specs.{declared.fault.RunFault.TheVariants.{NoMemory, NoThread}, Faults.sink_faults};
-ghost use Rattle.ultra_statistics.specs.Latencies.{answered_in, latency_row, histogram_text, latencies_of_run, IsHistogram};
+ghost use Rattle.ultra_statistics.specs.Latencies.{answered_in, count_of, count_row, histogram_text, latencies_of_run, AreByLatency, IsHistogram};
 
 use crate::observer::{Observer, observe_run};
 use crate::rows::put_numbers;
@@ -23,7 +24,7 @@ use ultra_trace_alone::RunFault;
 /// Runs a program on a machine of these settings in the caller's thread, up to cycle `to`. Writes a
 /// histogram of the latencies to the sink: for each that occurred how many deliveries of the cycles
 /// from `from` on had it. After a fault the sink has taken a prefix of it. The call holds a number
-/// for each latency up to the greatest that occurred.
+/// for each latency that occurred.
 ///
 /// `Write` says that the sink failed, and `NoMemory` that memory was refused; it is asked for only
 /// before the first byte is written. `NoThread` is never answered.
@@ -46,9 +47,17 @@ pub fn write_latencies<S: Sink>(
     ensures memory_first { IfErr result (λ e. e ≡ NoMemory → S.taken sink.new ≡ S.taken sink.old) }
 {
     let mut counts = LatencyCounts::new(alloc, config, from)?;
-    let end = observe_run(alloc, config, program, to, &mut counts)?;
-    write_histogram(&counts.counts, end, sink)?;
+    observe_run(alloc, config, program, to, &mut counts)?;
+    write_histogram(&counts.counts, sink)?;
     Ok(())
+}
+
+/// How many deliveries of a window had a latency.
+#[derive(Clone, Copy, Drop)]
+pub(crate) struct LatencyCount {
+    pub(crate) latency: u32,
+    /// At least 1.
+    pub(crate) answered: u32,
 }
 
 /// How many deliveries of a window had each latency.
@@ -58,8 +67,8 @@ pub(crate) struct LatencyCounts {
     pub(crate) from: u32,
     /// The open requests.
     pub(crate) table: OpenTable,
-    /// The deliveries, by latency, up to the greatest that occurred.
-    pub(crate) counts: Vec<u32>,
+    /// For each latency that occurred, in ascending order.
+    pub(crate) counts: Vec<LatencyCount>,
 }
 
 impl LatencyCounts {
@@ -119,18 +128,20 @@ fn pass_over(table: &mut OpenTable, events: &[Event], cycle: u32)
 /// Updates the open requests by the events of a cycle, and counts the latencies of its deliveries.
 /// An error says that memory was refused.
 fn count_latencies(
-    counts: &mut Vec<u32>,
+    counts: &mut Vec<LatencyCount>,
     table: &mut OpenTable,
     events: &[Event],
     cycle: u32,
 ) -> Result<(), AllocError>
     requires places { HavePlaces cycle table.old.rows.items events.now }
-    requires room { (l : ℕ) → slice_index counts.old.items l + length events.now < 2 ^ 32 }
+    requires by_latency { AreByLatency 0 counts.old.items }
+    requires room { (l : ℕ) → count_of counts.old.items l + length events.now < 2 ^ 32 }
     ensures rows { OnOk result
         (table.new.rows.items ≡ rows_after cycle table.old.rows.items events.now) }
     ensures capacity { OnOk result (vec_capacity table.new.rows ≡ vec_capacity table.old.rows) }
-    ensures counts { OnOk result ((l : ℕ) → slice_index counts.new.items l ≡
-        slice_index counts.old.items l +
+    ensures by_latency { OnOk result (AreByLatency 0 counts.new.items) }
+    ensures counts { OnOk result ((l : ℕ) → count_of counts.new.items l ≡
+        count_of counts.old.items l +
         answered_in (latencies_along cycle table.old.rows.items events.now) l) }
 {
     for event in events {
@@ -143,13 +154,15 @@ fn count_latencies(
 /// Counts the latency of the request that a cycle answers, where there is one. An error says that
 /// memory was refused.
 fn count_answer(
-    counts: &mut Vec<u32>,
+    counts: &mut Vec<LatencyCount>,
     answered: Option<OpenRequest>,
     cycle: u32,
 ) -> Result<(), AllocError>
-    requires { (l : ℕ) → slice_index counts.old.items l + 1 < 2 ^ 32 }
-    ensures { OnOk result ((l : ℕ) → slice_index counts.new.items l ≡
-        slice_index counts.old.items l + answered_in (since cycle answered) l) }
+    requires by_latency { AreByLatency 0 counts.old.items }
+    requires room { (l : ℕ) → count_of counts.old.items l + 1 < 2 ^ 32 }
+    ensures by_latency { OnOk result (AreByLatency 0 counts.new.items) }
+    ensures counts { OnOk result ((l : ℕ) → count_of counts.new.items l ≡
+        count_of counts.old.items l + answered_in (since cycle answered) l) }
 {
     match answered {
         Some(request) => count_latency(counts, cycle.saturating_sub(request.cycle)),
@@ -157,78 +170,68 @@ fn count_answer(
     }
 }
 
-/// Counts a latency. An error says that memory was refused.
-fn count_latency(counts: &mut Vec<u32>, latency: u32) -> Result<(), AllocError>
-    requires { (l : ℕ) → slice_index counts.old.items l + 1 < 2 ^ 32 }
-    ensures { OnOk result ((l : ℕ) → slice_index counts.new.items l ≡
-        slice_index counts.old.items l + weight (latency == l)) }
+/// Counts a latency. An error says that memory was refused, which is asked for where the latency
+/// occurs for the first time.
+fn count_latency(counts: &mut Vec<LatencyCount>, latency: u32) -> Result<(), AllocError>
+    requires by_latency { AreByLatency 0 counts.old.items }
+    requires room { (l : ℕ) → count_of counts.old.items l + 1 < 2 ^ 32 }
+    ensures by_latency { OnOk result (AreByLatency 0 counts.new.items) }
+    ensures counts { OnOk result ((l : ℕ) → count_of counts.new.items l ≡
+        count_of counts.old.items l + weight (latency == l)) }
 {
-    make_place(counts, latency)?;
-    counts[latency as usize] += 1;
-    Ok(())
-}
-
-/// Appends zeros until there is a count for a latency. An error says that memory was refused.
-fn make_place(counts: &mut Vec<u32>, latency: u32) -> Result<(), AllocError>
-    ensures place { OnOk result (latency < length counts.new.items) }
-    ensures same { OnOk result ((l : ℕ) →
-        slice_index counts.new.items l ≡ slice_index counts.old.items l) }
-{
-    for place in counts.len()..latency as usize + 1 {
-        let _ = place;
-        counts.push(0)?;
+    let place = place_of(counts, latency);
+    if place < counts.len() && counts[place].latency == latency {
+        counts[place].answered += 1;
+        return Ok(());
     }
+    counts.insert(
+        place,
+        LatencyCount {
+            latency,
+            answered: 1,
+        },
+    )?;
     Ok(())
 }
 
-/// Writes a histogram of latencies, all below `end`, to a sink. After a fault the sink has taken a
-/// prefix of it.
-fn write_histogram<S: Sink>(counts: &[u32], end: u32, sink: &mut S) -> Result<(), SinkFault>
-    ensures ok { OnOk result
-        (S.taken sink.new ≡ S.taken sink.old ++ histogram_text counts.now end) }
+/// How many of these counts are of lesser latencies.
+fn place_of(counts: &[LatencyCount], latency: u32) -> usize
+    requires { AreByLatency 0 counts.now }
+    ensures bound { result ≤ length counts.now }
+    ensures lesser { (k : ℕ) (d : LatencyCount) → k < result →
+        (slice_index_or counts.now k d).latency < latency }
+    ensures rest { (k : ℕ) (d : LatencyCount) → result ≤ k → k < length counts.now →
+        latency ≤ (slice_index_or counts.now k d).latency }
+{
+    counts.partition_point(|count| count.latency < latency)
+}
+
+/// Writes a histogram of latencies to a sink. After a fault the sink has taken a prefix of it.
+fn write_histogram<S: Sink>(counts: &[LatencyCount], sink: &mut S) -> Result<(), SinkFault>
+    ensures ok { OnOk result (S.taken sink.new ≡ S.taken sink.old ++ histogram_text counts.now) }
     ensures still { OnOk result (S.failures sink.new ≡ S.failures sink.old) }
-    ensures err { OnErr result (TakesPrefix (histogram_text counts.now end) (S.taken sink.old)
+    ensures err { OnErr result (TakesPrefix (histogram_text counts.now) (S.taken sink.old)
         (S.taken sink.new)) }
     ensures counted { OnErr result (S.failures sink.new ≡ S.failures sink.old + 1) }
 {
     let mut buffer = TextBuffer::new(sink);
-    put_histogram(&mut buffer, counts, end);
+    put_histogram(&mut buffer, counts);
     buffer.finish()
 }
 
-/// Writes a histogram of latencies, all below `end`.
-fn put_histogram<S: Sink>(buffer: &mut TextBuffer<'_, S>, counts: &[u32], end: u32)
-    ensures { Writes S.taken S.failures (histogram_text counts.now end) buffer.old buffer.new }
+/// Writes a histogram of latencies.
+fn put_histogram<S: Sink>(buffer: &mut TextBuffer<'_, S>, counts: &[LatencyCount])
+    ensures { Writes S.taken S.failures (histogram_text counts.now) buffer.old buffer.new }
 {
     buffer.put(b"latency,answered\n");
-    put_bars(buffer, counts, end);
+    put_bars(buffer, counts);
 }
 
-/// Writes the rows of the latencies below `end`.
-fn put_bars<S: Sink>(buffer: &mut TextBuffer<'_, S>, counts: &[u32], end: u32)
-    ensures { Writes S.taken S.failures
-        (by_number end (λ l. latency_row l (slice_index counts.now l))) buffer.old buffer.new }
+/// Writes the rows of latencies.
+fn put_bars<S: Sink>(buffer: &mut TextBuffer<'_, S>, counts: &[LatencyCount])
+    ensures { Writes S.taken S.failures (flat_map count_row counts.now) buffer.old buffer.new }
 {
-    for latency in 0..end {
-        put_bar(buffer, latency, answered_at(counts, latency));
-    }
-}
-
-/// How many deliveries had a latency.
-fn answered_at(counts: &[u32], latency: u32) -> u32
-    ensures { result ≡ slice_index counts.now latency }
-{
-    match counts.get(latency as usize) {
-        Some(count) => *count,
-        None => 0,
-    }
-}
-
-/// Writes the row of a latency, if it occurred.
-fn put_bar<S: Sink>(buffer: &mut TextBuffer<'_, S>, latency: u32, answered: u32)
-    ensures { Writes S.taken S.failures (latency_row latency answered) buffer.old buffer.new }
-{
-    if answered > 0 {
-        put_numbers(buffer, latency, &[answered]);
+    for count in counts {
+        put_numbers(buffer, count.latency, &[count.answered]);
     }
 }

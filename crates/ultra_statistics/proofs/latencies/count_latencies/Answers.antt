@@ -9,14 +9,15 @@ loop-event-init c = record {
   rows = refl;
   places = c.requires.places;
   shown = ([], refl, omega arith, λ k. omega arith);
+  by_latency = c.requires.by_latency;
   capacity = refl;
 }
 
 pub note-answered-requires : goal.note-answered-requires
 note-answered-requires c = (next_places c.args.cycle c.loop-event.table.rows.items c.args.events.now c.loop-event.event-index _ c.loop-event-test.true c.loop-event.invariant.places).0
 
-pub count_answer-requires : goal.count_answer-requires
-count_answer-requires c l =
+pub count_answer-requires-clause-room : goal.count_answer-requires-clause-room
+count_answer-requires-clause-room c l =
     let shown = c.loop-event.invariant.shown in
     omega (arith, c.requires.room l, shown.3 l, answered_small shown.0 l, shown.2, c.loop-event-test.true)
 
@@ -41,7 +42,8 @@ loop-event-preserved c =
         done ++ o,
         are.shown.1 ∙ ap (λ xs. done ++ xs) behind ∙ sym (append_assoc done o _),
         omega (arith, length-append done o, since_one cycle answered, are.shown.2),
-        λ k. omega (arith, c.in_ok-count_answer.ensures k, are.shown.3 k, answered_append done o k),
+        λ k. omega (arith, c.in_ok-count_answer.ensures.counts k, are.shown.3 k, answered_append done o k),
       );
+      by_latency = c.in_ok-count_answer.ensures.by_latency;
       capacity = c.note-answered.ensures.capacity ∙ are.capacity;
     }

@@ -1,7 +1,6 @@
 use Rattle.std.proofs.Common.{ℕ, List, ◌≡◌, ◌+◌, ◌≤◌, ◌++◌, drop, length, vec_capacity}
-use Rattle.std.specs.Prelude.{slice_index}
 use Rattle.ultra_latency.specs.Open.{rows_after, latencies_along, HavePlaces}
-use Rattle.ultra_statistics.specs.Latencies.{answered_in}
+use Rattle.ultra_statistics.specs.Latencies.{answered_in, count_of, AreByLatency}
 use Rattle.ultra_statistics.proofs.latencies.count_latencies.Given as goal
 
 abbrev pub invariant-loop-event : goal.invariant-loop-event
@@ -12,6 +11,7 @@ invariant-loop-event l =
     record {
       rows : rows_after l.cycle first l.events ≡ rows_after l.cycle now rest;
       places : HavePlaces l.cycle now rest;
-      shown : (done : List ℕ) × (latencies_along l.cycle first l.events ≡ done ++ latencies_along l.cycle now rest) × (length done ≤ l.event-index) × ((k : ℕ) → slice_index l.counts.items k ≡ slice_index l.initial.counts.items k + answered_in done k);
+      shown : (done : List ℕ) × (latencies_along l.cycle first l.events ≡ done ++ latencies_along l.cycle now rest) × (length done ≤ l.event-index) × ((k : ℕ) → count_of l.counts.items k ≡ count_of l.initial.counts.items k + answered_in done k);
+      by_latency : AreByLatency 0 l.counts.items;
       capacity : vec_capacity l.table.rows ≡ vec_capacity l.initial.table.rows;
     }

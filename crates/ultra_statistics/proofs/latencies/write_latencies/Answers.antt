@@ -15,17 +15,17 @@ pub returns-in_err-write_histogram-clause-err : goal.returns-in_err-write_histog
 returns-in_err-write_histogram-clause-err g c =
     let s = c.args.config.now in
     let p = c.args.program.now in
-    let end = c.in_ok-end.end in
+    let end = c.in_ok-observe_run.field-0 in
     let t = c.observe_run.new.observer in
-    let is = subst (λ f. IsHistogram s p f end t) (c.in_ok-end.ensures.from ∙ c.in_ok-counts.ensures.from) c.in_ok-end.ensures.noted in
-    let gone = rw (c.deref.ensures.value, histogram_is s p c.args.from c.args.to end t c.in_ok-end.ensures.end is) at c.in_err-write_histogram.ensures.err in
+    let is = subst (λ f. IsHistogram s p f end t) (c.in_ok-observe_run.ensures.from ∙ c.in_ok-counts.ensures.from) c.in_ok-observe_run.ensures.noted in
+    let gone = rw (c.deref.ensures.value, histogram_is s p c.args.from c.args.to end t c.in_ok-observe_run.ensures.end is) at c.in_err-write_histogram.ensures.err in
     on_err c.from_residual-in_err-write_histogram.result gone
 
 pub returns-clause-ok : goal.returns-clause-ok
 returns-clause-ok g c =
     let s = c.args.config.now in
     let p = c.args.program.now in
-    let end = c.in_ok-end.end in
+    let end = c.in_ok-observe_run.field-0 in
     let t = c.observe_run.new.observer in
-    let is = subst (λ f. IsHistogram s p f end t) (c.in_ok-end.ensures.from ∙ c.in_ok-counts.ensures.from) c.in_ok-end.ensures.noted in
-    rw (← histogram_is s p c.args.from c.args.to end t c.in_ok-end.ensures.end is) (rw c.deref.ensures.value at c.in_ok-write_histogram.ensures.ok)
+    let is = subst (λ f. IsHistogram s p f end t) (c.in_ok-observe_run.ensures.from ∙ c.in_ok-counts.ensures.from) c.in_ok-observe_run.ensures.noted in
+    rw (← histogram_is s p c.args.from c.args.to end t c.in_ok-observe_run.ensures.end is) (rw c.deref.ensures.value at c.in_ok-write_histogram.ensures.ok)

@@ -28,6 +28,7 @@ returns-then-cycle-self-clause-noted c =
     let events = events_here b.config b.program first c.args.made some b.machine _ c.requires.state.state c.events_of_one.ensures in
     record {
       table = table_next b.config b.program first c.args.made some law _ events c.args.self.now.table _ c.requires.noted.table c.pass_over.ensures.rows c.pass_over.ensures.capacity;
+      by_latency = c.requires.noted.by_latency;
       counts = same_counts_early b.config b.program first c.args.made some c.if-cycle-self.true c.args.self.now.counts.items c.requires.noted.counts;
     }
 
@@ -42,6 +43,7 @@ count_latencies-requires c =
     let events = events_here b.config b.program first c.args.made some b.machine _ c.requires.state.state c.events_of_one-2.ensures in
     record {
       places = places_here b.config b.program n (laws n) _ events _ c.requires.noted.table.rows;
+      by_latency = c.requires.noted.by_latency;
       room = λ l. let is = c.requires.noted.counts l in omega (arith, is, counts_fit b.config b.program first (λ k. (laws k).few) n (length c.events_of_one-2.result.now) (omega (arith, c.requires.few)) (omega (arith, few.events, ap length events)) l);
     }
 
@@ -56,5 +58,6 @@ returns-clause-noted c =
     let now = c.in_ok-count_latencies.ensures in
     record {
       table = table_next b.config b.program first c.args.made some law _ events c.args.self.now.table _ c.requires.noted.table now.rows now.capacity;
+      by_latency = now.by_latency;
       counts = counts_next b.config b.program first c.args.made some c.if-cycle-self.false _ (shown_here b.config b.program n law _ events _ c.requires.noted.table.rows) c.args.self.now.counts.items _ c.requires.noted.counts now.counts;
     }
