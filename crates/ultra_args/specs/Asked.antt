@@ -189,9 +189,11 @@ asked_in name.Run rows = option_and_then (λ cycles. with_run rows (λ conf prog
 asked_in name.Events rows = of_cycles shown.Events rows
 asked_in name.Steps rows = of_cycles shown.Steps rows
 asked_in name.Requests rows = with_run rows (λ conf prog. Some (requests conf prog))
+asked_in name.Latencies rows = of_cycles shown.Latencies rows
 asked_in name.Measure rows = option_and_then (λ cycles. with_run rows (λ conf prog.
     Some (measure conf prog (argument_flag arg.CSV rows) (argument_number arg.EVERY rows)
     cycles.0 cycles.1))) (cycles_in rows)
+asked_in name.Queues rows = of_cycles shown.Queues rows
 asked_in name.Order rows = with_run rows (λ conf prog. Some (order conf prog))
 asked_in name.Explain rows = with_run rows (λ conf prog. with_number arg.HEAP rows (λ heap.
     Some (explain conf prog heap)))

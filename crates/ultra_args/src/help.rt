@@ -20,8 +20,9 @@ pub fn of_command(command: CommandName) -> Help<'static> {
 
 /// The help of each command, in the order of [`CommandName`]. In a `match` each text would be
 /// proved by itself.
-static COMMAND_HELPS: [Help<'static>; 12] = [
-    RUN, EVENTS, STEPS, REQUESTS, MEASURE, ORDER, EXPLAIN, CHECK, PARA, LIST, SWEEP, LIB,
+static COMMAND_HELPS: [Help<'static>; 14] = [
+    RUN, EVENTS, STEPS, REQUESTS, LATENCIES, MEASURE, QUEUES, ORDER, EXPLAIN, CHECK, PARA, LIST,
+    SWEEP, LIB,
 ];
 
 /// The arguments of the table, by their helps.
@@ -338,6 +339,24 @@ the answer, and then the others.",
 docs/FORMATS.md lists the settings, the instructions and the columns."
 );
 
+/// The help of `latencies`.
+pub const LATENCIES: Help<'static> = help!(
+    "Writes how many requests took how long",
+    "\
+CONF is read first. Once both files are accepted, a table goes to standard
+output in CSV: for each latency that occurred, the number of answers that had
+it. A latency is the cycle of the answer minus the cycle of the issue.",
+    done: "the whole table is written",
+    text: "table",
+    example: "Example, two PEs that add 1 to one cell:
+
+    $ cd examples/combined_pair && ultra latencies conf.toml prog.s
+    latency,answered
+    5,2
+
+docs/FORMATS.md lists the settings, the instructions and the columns."
+);
+
 /// The help of `measure`.
 pub const MEASURE: Help<'static> = help!(
     "Writes the measures of a run",
@@ -355,6 +374,26 @@ line `NAME VALUE` for each, or with --csv or --every a table.",
     latency_mean 5.000
 
 docs/FORMATS.md lists the settings, the instructions and the measures."
+);
+
+/// The help of `queues`.
+pub const QUEUES: Help<'static> = help!(
+    "Writes what each queue moved and held",
+    "\
+CONF is read first. Once both files are accepted, a table goes to standard
+output in CSV, a row for each stage and position: what the request queue, the
+wait buffer and the reply queue there moved and held, and how often each was
+full.",
+    done: "the whole table is written",
+    text: "table",
+    example: "Example, two PEs that add 1 to one cell:
+
+    $ cd examples/combined_pair && ultra queues conf.toml prog.s | cut -d, -f3-8
+    stage,position,requests,combined,request_queue_sum,request_queue_most
+    0,0,1,1,1,1
+    0,1,0,0,0,0
+
+docs/FORMATS.md lists the settings, the instructions and the columns."
 );
 
 /// The help of `order`.

@@ -37,7 +37,7 @@ pub enum Invocation<'w> {
         only: LineFilter,
     },
     /// To write what happened in some cycles of a run:
-    /// `ultra events|steps CONF PROG [--from A] [--to B]`.
+    /// `ultra events|steps|latencies|queues CONF PROG [--from A] [--to B]`.
     Cycles {
         /// What is written of these cycles.
         output: CyclesOutput,
@@ -154,6 +154,10 @@ pub enum CyclesOutput {
     Events,
     /// The steps of the processing elements.
     Steps,
+    /// How many answers took how long.
+    Latencies,
+    /// What each queue moved and held.
+    Queues,
 }
 
 /// Where the steps of a paracomputer come from.

@@ -10,7 +10,9 @@ pub enum CommandName {
     Events,
     Steps,
     Requests,
+    Latencies,
     Measure,
+    Queues,
     Order,
     Explain,
     Check,
@@ -82,7 +84,7 @@ pub type TableArgument = Argument<&'static str>;
 pub type TableRow = CommandRow<&'static str, &'static [TableArgument]>;
 
 /// The commands with their arguments.
-pub static COMMANDS: [TableRow; 12] = [
+pub static COMMANDS: [TableRow; 14] = [
     CommandRow {
         command: CommandName::Run,
         name: "run",
@@ -104,9 +106,19 @@ pub static COMMANDS: [TableRow; 12] = [
         arguments: &[CONF, PROG],
     },
     CommandRow {
+        command: CommandName::Latencies,
+        name: "latencies",
+        arguments: &[CONF, PROG, MEASURED_FROM, MEASURED_TO],
+    },
+    CommandRow {
         command: CommandName::Measure,
         name: "measure",
         arguments: &[CONF, PROG, CSV, EVERY, MEASURED_FROM, MEASURED_TO],
+    },
+    CommandRow {
+        command: CommandName::Queues,
+        name: "queues",
+        arguments: &[CONF, PROG, MEASURED_FROM, MEASURED_TO],
     },
     CommandRow {
         command: CommandName::Order,
