@@ -34,7 +34,7 @@ static FILES: [(&str, &[u8]); 9] = [
 ];
 
 /// The words of each command, with the paths that it reads, in their order, and its status.
-static COMMANDS: [(&[&str], &[&str], u8); 19] = [
+static COMMANDS: [(&[&str], &[&str], u8); 21] = [
     (&["ultra", "run", "c.toml", "p.s"], &["c.toml", "p.s"], 0),
     (
         &["ultra", "run", "c.toml", "p.s", "--workers", "3"],
@@ -50,6 +50,12 @@ static COMMANDS: [(&[&str], &[&str], u8); 19] = [
     ),
     (&["ultra", "events", "c.toml", "p.s"], &["c.toml", "p.s"], 0),
     (&["ultra", "steps", "c.toml", "p.s"], &["c.toml", "p.s"], 0),
+    (
+        &["ultra", "latencies", "c.toml", "p.s"],
+        &["c.toml", "p.s"],
+        0,
+    ),
+    (&["ultra", "queues", "c.toml", "p.s"], &["c.toml", "p.s"], 0),
     (
         &["ultra", "requests", "c.toml", "p.s"],
         &["c.toml", "p.s"],

@@ -7,6 +7,7 @@ use Rattle.ultra_trace_alone.specs.declared.part.CycleLines.TheVariants as lines
 use Rattle.ultra_measure.specs.{declared.measuring.Layout.{Layout, TheVariants.{Lines, Table}}, Texts.measured}
 use Rattle.ultra_requests.specs.EventLines.{events_of}
 use Rattle.ultra_steps.specs.StepLines.{steps_of}
+use Rattle.ultra_statistics.specs.{Queues.queues_of, Latencies.latencies_of_run}
 use Rattle.ultra_args.specs.declared.{CyclesOutput.CyclesOutput, LineFilter.LineFilter}
 use Rattle.ultra_args.specs.declared.CyclesOutput.TheVariants as cycles
 use Rattle.ultra_args.specs.declared.LineFilter.TheVariants as filter
@@ -33,3 +34,5 @@ measures_asked csv every from to c p = measured c p from to (layout_asked csv ev
 abbrev pub cycles_text : CyclesOutput → ℕ → ℕ → Settings → List Instr → List ℕ
 cycles_text cycles.Events = events_of
 cycles_text cycles.Steps = steps_of
+cycles_text cycles.Latencies = latencies_of_run
+cycles_text cycles.Queues = queues_of

@@ -19,6 +19,7 @@ use ultra_measure::{Layout, measure};
 use ultra_model::{Config, MOST_CYCLES};
 use ultra_msg::Sink;
 use ultra_requests::{write_events, write_requests};
+use ultra_statistics::{write_latencies, write_queues};
 use ultra_steps::write_steps;
 use ultra_trace::RunFault;
 
@@ -73,6 +74,8 @@ fn write_cycles<S: Sink>(
     match text.output {
         CyclesOutput::Events => write_events(alloc, config, program, from, to, sink),
         CyclesOutput::Steps => write_steps(alloc, config, program, from, to, sink),
+        CyclesOutput::Latencies => write_latencies(alloc, config, program, from, to, sink),
+        CyclesOutput::Queues => write_queues(alloc, config, program, from, to, sink),
     }
 }
 
