@@ -66,7 +66,7 @@ fn observe_cycles<O: Observer>(
         O.has_noted observer.new blocks.old.config blocks.old.program n n) }
     ensures from { OnOk result (O.from observer.new ≡ O.from observer.old) }
 {
-    let end = most_cycles(blocks).min(to.saturating_add(1));
+    let end = most_cycles(blocks, None).min(to.saturating_add(1));
     for cycle in 0..end {
         observer.note(blocks, cycle, true)?;
         blocks.cycle();
