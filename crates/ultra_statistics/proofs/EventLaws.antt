@@ -1,19 +1,19 @@
 -- the events of a run by their numbers: the combinations of a stage by position, and the deliveries
 -- of a window by latency
-use Rattle.std.proofs.Common.{ℕ, zero, suc, List, [], ◌∷◌, ◌++◌, ◌≡◌, ◌≢◌, ◌+◌, ◌-◌, ◌<◌, ◌≤◌, Bool, true, false, length, length-append, refl, sym, ap, ◌∙◌, arith}
+use Rattle.std.proofs.Common.{ℕ, zero, suc, List, [], ◌∷◌, ◌≡◌, ◌≢◌, ◌+◌, ◌-◌, ◌<◌, ◌≤◌, Bool, true, false, length, length-append, refl, sym, ap, ◌∙◌, arith}
 use Rattle.std.proofs.lemmas.Bool.Decides.{nat_tests}
 use Rattle.std.specs.{Prelude.{Option, Some, None, IfSome, ◌==◌, ◌&&◌}, List.{AllByRecursion, flat_map, range_with_len}}
 use Rattle.ultra_msg.specs.declared.{Request.Request, ReplyMessage.ReplyMessage, Event.{Event, TheVariants.{Delivered, Served, Combined, Issued}}}
 use Rattle.ultra_switch.specs.Arrive.{Lane, Combination, arrive, combine_within}
 use Rattle.ultra_mem.specs.{declared.Served.Served as Act, Serve.served}
 use Rattle.ultra_isa.specs.declared.Instr.{Instr}
-use Rattle.ultra_model.specs.{Machine.{Settings, Machine, Element, size, module_at, element_at}, Balance.{count, total, weight}}
+use Rattle.ultra_model.specs.{Machine.{Settings, Element, size, module_at, element_at}, Balance.{count, total, weight}}
 use Rattle.ultra_model.specs.Places.{places}
 use Rattle.ultra_model.specs.Phases.{after, delivery, serving, combination, combinations, lane_after_leaving, arrivals, issue_event}
 use Rattle.ultra_model.proofs.Each.{each-append, each-present, each-joined, each-places}
 use Rattle.ultra_model.proofs.Sums.{total_none, total_front, total_same, total_plus, total_zero, total_only}
 use Rattle.ultra_latency.specs.Latency.{latencies, latencies_of, latencies_among}
-use Rattle.ultra_latency.proofs.CycleEvents.{before, replied, remembered, requested, brought, sent, deliveries, servings, meetings, issues, events_are}
+use Rattle.ultra_latency.proofs.CycleEvents.{replied, remembered, requested, brought, sent, deliveries, servings, meetings, issues, events_are}
 use Rattle.ultra_measure.specs.{Window.event_count, EventKinds.{is_combination_in, is_delivery}}
 use Rattle.ultra_statistics.specs.{Ports.is_combination_at, Latencies.answered_in}
 

@@ -1,6 +1,6 @@
 -- how often each latency occurred, over one cycle more
-use Rattle.std.proofs.Common.{ℕ, zero, suc, List, [], ◌∷◌, ◌++◌, ◌≡◌, ◌+◌, ◌-◌, ◌*◌, ◌^◌, ◌<◌, ◌≤◌, length, get_or, length-append, append-nil, refl, sym, ap, ◌∙◌, subst, arith}
-use Rattle.std.specs.Prelude.{Option, Some, None, ◌==◌, option_to_list, slice_index, vec_capacity}
+use Rattle.std.proofs.Common.{ℕ, zero, suc, List, [], ◌++◌, ◌≡◌, ◌+◌, ◌-◌, ◌*◌, ◌^◌, ◌<◌, ◌≤◌, length, length-append, append-nil, refl, sym, ap, ◌∙◌, subst, arith}
+use Rattle.std.specs.Prelude.{Option, Some, None, ◌==◌, option_to_list, vec_capacity}
 use Rattle.std.specs.List.{flat_map, range_with_len}
 use Rattle.std.proofs.lemmas.List.Concat.{flat_map-append}
 use Rattle.ultra_msg.specs.declared.Event.{Event}
@@ -10,7 +10,7 @@ use Rattle.ultra_model.proofs.Counting.{count-append}
 use Rattle.ultra_holders.proofs.Skipped.{range_parts}
 use Rattle.ultra_latency.specs.{Latency.{latencies, latencies_of}, declared.open.{OpenRequest.OpenRequest, OpenTable.OpenTable}, Open.{IsOpenLaw, IsOpenTable, open_rows, rows_after, since}}
 use Rattle.ultra_measure.proofs.{Events.count_small, Waiting.{rows_here}}
-use Rattle.ultra_statistics.specs.{Runs.end_of, Queues.numbers_row, Latencies.{answered_in, count_of, latency_row, histogram_text, latencies_header, latencies_of_run, AreByLatency, IsHistogram}, declared.latencies.{LatencyCount.LatencyCount, LatencyCounts.LatencyCounts}}
+use Rattle.ultra_statistics.specs.{Runs.end_of, Latencies.{answered_in, count_of, latency_row, histogram_text, latencies_header, latencies_of_run, AreByLatency, IsHistogram}, declared.latencies.{LatencyCount.LatencyCount, LatencyCounts.LatencyCounts}}
 use Rattle.ultra_statistics.proofs.{CountLists.{none_beyond, rows_are}, EventLaws.all_below}
 
 pub answered_append : (xs ys : List ℕ) (l : ℕ) → answered_in (xs ++ ys) l ≡ answered_in xs l + answered_in ys l

@@ -1,6 +1,6 @@
-use Rattle.std.proofs.Common.{ℕ, ◌≡◌, ◌<◌, length, slice_index_or, ap, sym, ◌∙◌, arith}
+use Rattle.std.proofs.Common.{◌≡◌, ◌<◌, length, slice_index_or, ap, sym, ◌∙◌, arith}
 use Rattle.ultra_statistics.specs.declared.latencies.LatencyCount.{LatencyCount}
-use Rattle.ultra_statistics.proofs.CountLists.{count_is, counted_first, counted_there, first_of, same_at, IsCounted}
+use Rattle.ultra_statistics.proofs.CountLists.{count_is, counted_first, counted_there, first_of, same_at}
 use Rattle.ultra_statistics.proofs.latencies.count_latency.Goals as goal
 use Rattle.ultra_statistics.proofs.latencies.count_latency.Goals.{else-place-len-via-then-place-len+else-index-latency, else-place-len-via-else-place-len}
 
