@@ -72,7 +72,7 @@ counted_again k (p ∷ ps) is (suc j) d h =
     let l = (get_or ps j d).latency in
     ((is.0, is.1, rest.0), λ m. behind_first (p.latency == m) p.answered (count_of ps m) _ (weight (l == m)) (λ b. ap weight (above_test l m (omega (arith, is_same p.latency m b, more)))) (rest.1 m))
 
--- what stands at a place doesn't depend on the default
+-- what is at a place doesn't depend on the default
 pub same_at : (ps : List LatencyCount) (j : ℕ) (d e : LatencyCount) → j < length ps → get_or ps j d ≡ get_or ps j e
 same_at [] j d e h = absurd (omega (arith, h))
 same_at (p ∷ ps) zero d e h = refl

@@ -24,7 +24,7 @@ pub(crate) struct QueueCounts {
     pub(crate) full: u32,
 }
 
-/// Where a state of a machine stands in a window of cycles.
+/// Where in a window of cycles a state of a machine is.
 #[derive(Clone, Copy, Drop)]
 pub(crate) struct Moment {
     /// Whether a cycle of the window ended with it.

@@ -40,7 +40,7 @@ class Firefox {
         this.waiting = new Map();
     }
 
-    /** Waits for the port that Firefox writes into its profile, and begins a session. */
+    /** Waits for the port that Firefox writes into its profile, and greets it. */
     async start() {
         const file = path.join(this.profile, "MarionetteActivePort");
         for (const end = Date.now() + SECONDS * 1000; !fs.existsSync(file) || !fs.readFileSync(file, "utf8"); ) {
