@@ -20,11 +20,7 @@ pub enum StepReport {
 
 /// Does one step of a processing element. A request that it issues acts on these cells, and its
 /// reply comes, before the step ends.
-pub fn step_at_once(
-    processor: &mut Processor,
-    program: &Program,
-    cells: &mut [Word],
-) -> StepReport
+pub fn step_at_once(processor: &mut Processor, program: &Program, cells: &mut [Word]) -> StepReport
     requires { processor.old.site.all_cells ≤ length cells.old }
     ensures processor { let t = alone_at processor.old.site program.now processor.old.core in
         processor.new ≡ record processor.old { core = core_answered cells.old t t.sent } }
