@@ -62,7 +62,7 @@ abbrev pub some_refers : Option Instr → Bool
 some_refers None = false
 some_refers (Some i) = refers_to_cell i
 
--- whether one of so many places from this one on holds a reference to a cell
+-- whether one of the n places from this one on holds a reference to a cell
 abbrev pub has_reference : List Instr → ℕ → ℕ → Bool
 has_reference program from zero = false
 has_reference program from (suc n) =
@@ -123,7 +123,7 @@ module _ (s : Scope) where
       (register_at text)))))))
 
   -- ---- sums
-  -- a value so many times
+  -- n times a value
   unfoldable pub times : ℕ → Reader Term
   times n text =
       read_on (value_at text) (λ v. Some (record { factor = n; value = v.0 }, v.1))
@@ -164,7 +164,7 @@ module _ (s : Scope) where
   disjunction_at part text =
       parts_between (codes "or") (conjunction_at part) (λ c. c) either text
 
-  -- NOT, with so many `not` and `(` inside one another
+  -- NOT, with at most this many `not` and `(` inside one another
   unfoldable pub negation_at : ℕ → Reader Condition
   negation_at zero text = comparison_at text
   negation_at (suc depth) text =
